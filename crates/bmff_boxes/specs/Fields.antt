@@ -11,7 +11,7 @@ field n i p = if nat_lt (length p) (i + n) then None else Some (big_number n (dr
 -- the number `bits` of n bytes, read as two's complement
 abbrev pub signed_number : ℕ → ℕ → ℤ
 signed_number n bits =
-  if nat_lt bits (2 ^ (8 * n - 1)) then pos bits else pos bits -ℤ pos (2 ^ (8 * n))
+    if nat_lt bits (2 ^ (8 * n - 1)) then pos bits else pos bits -ℤ pos (2 ^ (8 * n))
 
 -- the signed number in the n bytes from place i on
 abbrev pub signed_field : ℕ → ℕ → List ℕ → Option ℤ

@@ -147,11 +147,11 @@ new_number before track id e =
     subst (λ n. list_any (has_id n) before ≡ false) (same_ok _ _ (Ok b.value) refl c.then) fresh
 
 -- what a track has that comes behind others
-pub record IsNewTrack (before : List TrackInfo) (track : TrackInfo) : Type 0 where
+pub record IsNewAndReadable (before : List TrackInfo) (track : TrackInfo) : Type 0 where
   pub readable : IsReadable track
   pub fresh : list_any (has_id track.id) before ≡ false
 
-track_joins : (form : Form) (scale : ℕ) (trexes : List (List ℕ)) (before : List TrackInfo) (trak : List ℕ) (track : TrackInfo) → track_of_trak form scale trexes before trak ≡ Ok track → IsNewTrack before track
+track_joins : (form : Form) (scale : ℕ) (trexes : List (List ℕ)) (before : List TrackInfo) (trak : List ℕ) (track : TrackInfo) → track_of_trak form scale trexes before trak ≡ Ok track → IsNewAndReadable before track
 unfolding track_of_trak
 track_joins form scale trexes before trak track e =
     let a = through (need Size (row_of trak)) (λ boxes. track_number_of before boxes >>= λ id. mdia_row_of boxes >>= λ media. kind_in media >>= λ kind. content_of form scale kind boxes media >>= λ content. Ok (track_with trexes id kind content)) track e in
@@ -160,8 +160,8 @@ track_joins form scale trexes before trak track e =
     let d = through (kind_in c.value) (λ kind. content_of form scale kind a.value c.value >>= λ content. Ok (track_with trexes b.value kind content)) track c.then in
     let f = through (content_of form scale d.value a.value c.value) (λ content. Ok (track_with trexes b.value d.value content)) track d.then in
     let fits = content_fits form scale d.value a.value c.value f.value f.was in
-    let all : IsNewTrack before (track_with trexes b.value d.value f.value) = record { readable = (fits.scale, fits.media, fits.low, fits.high); fresh = new_number before a.value b.value b.was } in
-    subst (IsNewTrack before) (same_ok _ _ (Ok (track_with trexes b.value d.value f.value)) refl f.then) all
+    let all : IsNewAndReadable before (track_with trexes b.value d.value f.value) = record { readable = (fits.scale, fits.media, fits.low, fits.high); fresh = new_number before a.value b.value b.was } in
+    subst (IsNewAndReadable before) (same_ok _ _ (Ok (track_with trexes b.value d.value f.value)) refl f.then) all
 
 -- ---- the tracks
 

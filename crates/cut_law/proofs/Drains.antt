@@ -21,51 +21,51 @@ pub record SlotAndSource : Type 0 where
   pub slot : Option BufferState
   pub source : CoreSource
 
-abbrev pub place_of : Half → SlotAndSource
-place_of h = record { slot = Some h.buffer; source = h.source }
+abbrev pub slot_of_half : Half → SlotAndSource
+slot_of_half h = record { slot = Some h.buffer; source = h.source }
 
 -- something runs in a slot
 abbrev pub is_running_in : Option BufferState → Bool
 is_running_in slot = is_updating_slot (running_of slot)
 
 -- all the work of what is in a slot
-abbrev pub place_at_end : ℕ → Option BufferState → CoreSource → SlotAndSource
-place_at_end k None s = record { slot = None; source = s }
-place_at_end k (Some b) s = place_of (half_at_end k (record { buffer = b; source = s }))
+abbrev pub slot_at_end : ℕ → Option BufferState → CoreSource → SlotAndSource
+slot_at_end k None s = record { slot = None; source = s }
+slot_at_end k (Some b) s = slot_of_half (half_at_end k (record { buffer = b; source = s }))
 
 -- one step of it
-abbrev pub place_after_step : ℕ → Option BufferState → CoreSource → SlotAndSource
-place_after_step k None s = record { slot = None; source = s }
-place_after_step k (Some b) s = place_of (half_by k (turn_result (surroundings_in k s) b.feed b.content) (record { buffer = b; source = s }))
+abbrev pub slot_after_step : ℕ → Option BufferState → CoreSource → SlotAndSource
+slot_after_step k None s = record { slot = None; source = s }
+slot_after_step k (Some b) s = slot_of_half (half_by k (turn_result (surroundings_in k s) b.feed b.content) (record { buffer = b; source = s }))
 
-place_at_end-idle : (k : ℕ) (slot : Option BufferState) (s : CoreSource) → is_running_in slot ≡ false → place_at_end k slot s ≡ record { slot = slot; source = s }
-place_at_end-idle k None s e = refl
-place_at_end-idle k (Some b) s e = ap place_of (half_at_end-idle k (record { buffer = b; source = s }) e)
+slot_at_end-idle : (k : ℕ) (slot : Option BufferState) (s : CoreSource) → is_running_in slot ≡ false → slot_at_end k slot s ≡ record { slot = slot; source = s }
+slot_at_end-idle k None s e = refl
+slot_at_end-idle k (Some b) s e = ap slot_of_half (half_at_end-idle k (record { buffer = b; source = s }) e)
 
-place_at_end-rests : (k : ℕ) (slot : Option BufferState) (s : CoreSource) → is_running_in (place_at_end k slot s).slot ≡ false
-place_at_end-rests k None s = refl
-place_at_end-rests k (Some b) s = half_at_end-rests k (record { buffer = b; source = s })
+slot_at_end-rests : (k : ℕ) (slot : Option BufferState) (s : CoreSource) → is_running_in (slot_at_end k slot s).slot ≡ false
+slot_at_end-rests k None s = refl
+slot_at_end-rests k (Some b) s = half_at_end-rests k (record { buffer = b; source = s })
 
-place_at_end-work : (k : ℕ) (slot : Option BufferState) (s : CoreSource) → place_at_end k slot s ≡ place_at_end k (place_after_step k slot s).slot (place_after_step k slot s).source
-place_at_end-work k None s = refl
-place_at_end-work k (Some b) s = ap place_of (half_at_end-work k (record { buffer = b; source = s }))
+slot_at_end-work : (k : ℕ) (slot : Option BufferState) (s : CoreSource) → slot_at_end k slot s ≡ slot_at_end k (slot_after_step k slot s).slot (slot_after_step k slot s).source
+slot_at_end-work k None s = refl
+slot_at_end-work k (Some b) s = ap slot_of_half (half_at_end-work k (record { buffer = b; source = s }))
 
 -- ---- all slots
 
-abbrev pub cons_place : SlotAndSource → (CoreSource → Core) → Core
-cons_place p go = record { source = (go p.source).source; buffers = p.slot ∷ (go p.source).buffers }
+abbrev pub core_with_first_slot : SlotAndSource → (CoreSource → Core) → Core
+core_with_first_slot p go = record { source = (go p.source).source; buffers = p.slot ∷ (go p.source).buffers }
 
 -- all the work of the buffers, which are numbered from k
 abbrev pub drain_from : ℕ → BufferStates → CoreSource → Core
 drain_from k [] s = record { source = s; buffers = [] }
-drain_from k (b ∷ bs) s = cons_place (place_at_end k b s) (λ t. drain_from (suc k) bs t)
+drain_from k (b ∷ bs) s = core_with_first_slot (slot_at_end k b s) (λ t. drain_from (suc k) bs t)
 
 abbrev pub drain_core : Core → Core
 drain_core c = drain_from 0 c.buffers c.source
 
 -- the slot of a number is replaced
-abbrev pub set_place : ℕ → BufferStates → SlotAndSource → Core
-set_place j bs p = record { source = p.source; buffers = slice_set bs j p.slot }
+abbrev pub core_with_slot : ℕ → BufferStates → SlotAndSource → Core
+core_with_slot j bs p = record { source = p.source; buffers = slice_set bs j p.slot }
 
 -- ---- the lowest number at which something runs
 
@@ -100,7 +100,7 @@ pub drain-idle : (k : ℕ) (bs : BufferStates) (s : CoreSource) → lowest bs �
 drain-idle k [] s e = refl
 drain-idle k (b ∷ bs) s e =
     let p = lowest-none-by (is_running_in b) (lowest bs) e in
-    ap (λ h. cons_place h (λ t. drain_from (suc k) bs t)) (place_at_end-idle k b s p.0)
+    ap (λ h. core_with_first_slot h (λ t. drain_from (suc k) bs t)) (slot_at_end-idle k b s p.0)
     ∙ ap (λ (c : Core). record { source = c.source; buffers = b ∷ c.buffers }) (drain-idle (suc k) bs s p.1)
 
 -- ---- one step of the lowest
@@ -116,25 +116,25 @@ pub record HasDrainStep (k n j : ℕ) (bs : BufferStates) (s : CoreSource) : Typ
   pub slot : Option BufferState
   pub there : slice_get bs j ≡ Some slot
   pub runs : is_running_in slot ≡ true
-  pub same : drain_from k bs s ≡ drain_from k (slice_set bs j (place_after_step n slot s).slot) (place_after_step n slot s).source
+  pub same : drain_from k bs s ≡ drain_from k (slice_set bs j (slot_after_step n slot s).slot) (slot_after_step n slot s).source
 
 stepped-by : (k n j : ℕ) (b : Option BufferState) (bs : BufferStates) (s : CoreSource) → n ≡ k + j
     → ((is_running_in b ≡ true) × (j ≡ zero)) ⊎ ((i : ℕ) × (is_running_in b ≡ false) × (lowest bs ≡ Some i) × (j ≡ suc i))
     → ((i : ℕ) → lowest bs ≡ Some i → n ≡ suc k + i → HasDrainStep (suc k) n i bs s) → HasDrainStep k n j (b ∷ bs) s
 stepped-by k n j b bs s e (inl p) f =
     let same : n ≡ k = omega (arith, p.1) in
-    rw (p.1, same) (record { slot = b; there = refl; runs = p.0; same = ap (λ h. cons_place h (λ t. drain_from (suc k) bs t)) (place_at_end-work k b s) })
+    rw (p.1, same) (record { slot = b; there = refl; runs = p.0; same = ap (λ h. core_with_first_slot h (λ t. drain_from (suc k) bs t)) (slot_at_end-work k b s) })
 stepped-by k n j b bs s e (inr (i, idle, low, is)) f =
     let number : n ≡ suc k + i = omega (arith, is) in
     let r = f i low number in
-    let head : (t : CoreSource) → place_at_end k b t ≡ record { slot = b; source = t } = λ t. place_at_end-idle k b t idle in
+    let head : (t : CoreSource) → slot_at_end k b t ≡ record { slot = b; source = t } = λ t. slot_at_end-idle k b t idle in
     rw is (record {
       slot = r.slot;
       there = r.there;
       runs = r.runs;
-      same = ap (λ h. cons_place h (λ t. drain_from (suc k) bs t)) (head s)
+      same = ap (λ h. core_with_first_slot h (λ t. drain_from (suc k) bs t)) (head s)
           ∙ ap (λ (c : Core). record { source = c.source; buffers = b ∷ c.buffers }) r.same
-          ∙ sym (ap (λ h. cons_place h (λ t. drain_from (suc k) (slice_set bs i (place_after_step n r.slot s).slot) t)) (head (place_after_step n r.slot s).source));
+          ∙ sym (ap (λ h. core_with_first_slot h (λ t. drain_from (suc k) (slice_set bs i (slot_after_step n r.slot s).slot) t)) (head (slot_after_step n r.slot s).source));
     })
 
 pub stepped : (k n j : ℕ) (bs : BufferStates) (s : CoreSource) → n ≡ k + j → lowest bs ≡ Some j → HasDrainStep k n j bs s
@@ -156,12 +156,12 @@ work_core k c = core_by (work_effect k c) c
 
 turned : (o : Option CallResult) (b : BufferState) (k : ℕ) (c : Core) → slice_get c.buffers k ≡ Some (Some b)
     → core_by (option_map (λ result. reply_effect k result c) (buffers_turn_of k c.buffers (slot_turn_of o))) c
-    ≡ set_place k c.buffers (place_of (half_by k o (record { buffer = b; source = c.source })))
+    ≡ core_with_slot k c.buffers (slot_of_half (half_by k o (record { buffer = b; source = c.source })))
 turned None b k c e = ap (λ bs. record { source = c.source; buffers = bs }) (sym (set-same c.buffers k (Some b) e))
 turned (Some r) b k c e = refl
 
 turned-slot : (x : Option (Option BufferState)) (slot : Option BufferState) (k : ℕ) (c : Core) → slice_get c.buffers k ≡ Some slot → x ≡ Some slot
-    → core_by (option_map (λ result. reply_effect k result c) (turn_by_slot x k (surroundings_in k c.source) c.buffers)) c ≡ set_place k c.buffers (place_after_step k slot c.source)
+    → core_by (option_map (λ result. reply_effect k result c) (turn_by_slot x k (surroundings_in k c.source) c.buffers)) c ≡ core_with_slot k c.buffers (slot_after_step k slot c.source)
 turned-slot None slot k c e h = absurd (cc)
 turned-slot (Some a) None k c e h =
     let same : a ≡ None = cc in
@@ -170,7 +170,7 @@ turned-slot (Some a) (Some b) k c e h =
     let same : a ≡ Some b = cc in
     rw same (turned (turn_result (surroundings_in k c.source) b.feed b.content) b k c e)
 
-pub work-there : (slot : Option BufferState) (k : ℕ) (c : Core) → slice_get c.buffers k ≡ Some slot → work_core k c ≡ set_place k c.buffers (place_after_step k slot c.source)
+pub work-there : (slot : Option BufferState) (k : ℕ) (c : Core) → slice_get c.buffers k ≡ Some slot → work_core k c ≡ core_with_slot k c.buffers (slot_after_step k slot c.source)
 work-there slot k c e = turned-slot (slice_get c.buffers k) slot k c e e
 
 -- a drain after one step of the lowest running buffer comes to what the drain comes to
@@ -183,16 +183,16 @@ drain-step c k low =
 -- ---- where one buffer alone may run
 
 pub drain-one : (k n j : ℕ) (bs : BufferStates) (a b : Option BufferState) (s : CoreSource) → n ≡ k + j → lowest bs ≡ None → slice_get bs j ≡ Some a
-    → drain_from k (slice_set bs j b) s ≡ set_place j bs (place_at_end n b s)
+    → drain_from k (slice_set bs j b) s ≡ core_with_slot j bs (slot_at_end n b s)
 drain-one k n j [] a b s e low there = absurd (cc)
 drain-one k n zero (x ∷ bs) a b s e low there =
     let p = lowest-none-by (is_running_in x) (lowest bs) low in
     let same : n ≡ k = omega arith in
-    rw same (ap (λ (c : Core). record { source = c.source; buffers = (place_at_end k b s).slot ∷ c.buffers }) (drain-idle (suc k) bs (place_at_end k b s).source p.1))
+    rw same (ap (λ (c : Core). record { source = c.source; buffers = (slot_at_end k b s).slot ∷ c.buffers }) (drain-idle (suc k) bs (slot_at_end k b s).source p.1))
 drain-one k n (suc j) (x ∷ bs) a b s e low there =
     let p = lowest-none-by (is_running_in x) (lowest bs) low in
     let number : n ≡ suc k + j = omega arith in
-    ap (λ h. cons_place h (λ t. drain_from (suc k) (slice_set bs j b) t)) (place_at_end-idle k x s p.0)
+    ap (λ h. core_with_first_slot h (λ t. drain_from (suc k) (slice_set bs j b) t)) (slot_at_end-idle k x s p.0)
     ∙ ap (λ (c : Core). record { source = c.source; buffers = x ∷ c.buffers }) (drain-one (suc k) n j bs a b s number p.1 there)
 
 none-by : (t : Bool) (rest : Option ℕ) → t ≡ false → rest ≡ None → (if t then Some zero else option_map (λ k. suc k) rest) ≡ None
@@ -231,7 +231,7 @@ at-idle (x ∷ bs) (suc j) b low there = at-idle bs j b (lowest-none-by (is_runn
 abbrev pub on_slot : Option (Option BufferState) → ℕ → (ℕ → Half → Half) → Core → Core
 on_slot None k f c = c
 on_slot (Some None) k f c = c
-on_slot (Some (Some b)) k f c = set_place k c.buffers (place_of (f k (record { buffer = b; source = c.source })))
+on_slot (Some (Some b)) k f c = core_with_slot k c.buffers (slot_of_half (f k (record { buffer = b; source = c.source })))
 
 -- an append to a buffer that is not full
 abbrev pub append_core : List ℕ → ℕ → Core → Core
@@ -263,9 +263,9 @@ cut-found None p q k c e low = ap (λ x. on_slot x k (λ n h. half_at_end n (hal
 cut-found (Some None) p q k c e low = ap (λ x. on_slot x k (λ n h. half_at_end n (half_after_append q n h)) c) e
 cut-found (Some (Some b)) p q k c e low =
     let h : Half = half_at_end k (half_after_append p k (record { buffer = b; source = c.source })) in
-    ap (λ x. on_slot x k (λ n h. half_at_end n (half_after_append q n h)) (set_place k c.buffers (place_of h))) (get-set c.buffers k (Some b) (Some h.buffer) e)
+    ap (λ x. on_slot x k (λ n h. half_at_end n (half_after_append q n h)) (core_with_slot k c.buffers (slot_of_half h))) (get-set c.buffers k (Some b) (Some h.buffer) e)
     ∙ ap (λ bs. record { source = (half_at_end k (half_after_append q k h)).source; buffers = bs }) (set-set c.buffers k (Some h.buffer) (Some (half_at_end k (half_after_append q k h)).buffer))
-    ∙ ap (λ r. set_place k c.buffers (place_of r)) (cut-half p q k (record { buffer = b; source = c.source }) (at-idle c.buffers k (Some b) low e))
+    ∙ ap (λ r. core_with_slot k c.buffers (slot_of_half r)) (cut-half p q k (record { buffer = b; source = c.source }) (at-idle c.buffers k (Some b) low e))
 
 -- two awaited parts come to what the whole comes to
 pub cut-core : (p q : List ℕ) (k : ℕ) (c : Core) → lowest c.buffers ≡ None → drain_core (append_core q k (drain_core (append_core p k c))) ≡ drain_core (append_core (p ++ q) k c)

@@ -38,7 +38,7 @@ use Rattle.cut_law.specs.Plays.{after_entry, line_entries, after_line, play_entr
 use Rattle.cut_law.specs.Room.{HasRoomFor, HasRoomForCall, HasRoomForEntry, HasRoomForLine, IsUnmet}
 use Rattle.cut_law.proofs.Halves.{half_with, half_after_append}
 use Rattle.cut_law.proofs.Halves.{half_after_append_by as free_by}
-use Rattle.cut_law.proofs.Drains.{set_place, place_of, on_slot, append_core, core_by, work_core, drain_core}
+use Rattle.cut_law.proofs.Drains.{core_with_slot, slot_of_half, on_slot, append_core, core_by, work_core, drain_core}
 use Rattle.cut_law.proofs.Ending.{after-append, turned-core, meaning-core, drain-core}
 
 -- ---- calls
@@ -88,7 +88,7 @@ found-free : (x : Option (Option BufferState)) (bytes : List ℕ) (position : �
 found-free None bytes position k c e room = refl
 found-free (Some None) bytes position k c e room = ap (λ bs. record { source = c.source; buffers = bs }) (set-same c.buffers k None e)
 found-free (Some (Some b)) bytes position k c e room =
-    ap (λ h. set_place k c.buffers (place_of h)) (append-free (is_updating b.feed.running || not (c.source.error == 0)) bytes position k b c.source room)
+    ap (λ h. core_with_slot k c.buffers (slot_of_half h)) (append-free (is_updating b.feed.running || not (c.source.error == 0)) bytes position k b c.source room)
 
 -- a call on a buffer that was made, or on one that was not
 made-core : (t : Bool) (k : ℕ) (m : CoreEffect) (c d : Core) → nat_lt k (length c.buffers) ≡ t → m.core ≡ d → (t ≡ false → c ≡ d) → (if_made k m c).core ≡ d

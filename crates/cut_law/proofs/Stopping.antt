@@ -12,7 +12,7 @@ use Rattle.cut_law.specs.Plays.{play_of}
 use Rattle.cut_law.specs.Room.{IsUnmet}
 use Rattle.cut_law.specs.Cuts.{AreParts, append_lines, part_lines, IsOtherCut, IsAwaited, stopped_lines}
 use Rattle.cut_law.proofs.Halves.{half_after_append, half_after_append_by}
-use Rattle.cut_law.proofs.Drains.{set_place, place_of, on_slot, append_core, drain_core, lowest, drain-idle, append-rests}
+use Rattle.cut_law.proofs.Drains.{core_with_slot, slot_of_half, on_slot, append_core, drain_core, lowest, drain-idle, append-rests}
 use Rattle.cut_law.proofs.Journals.{set-same, append_some, core_play, play-append, play-core, unmet-front}
 use Rattle.cut_law.proofs.Cutting.{parts-core, whole-core, idle-front}
 
@@ -29,7 +29,7 @@ found-dead : (x : Option (Option BufferState)) (bytes : List ℕ) (k : ℕ) (c :
 found-dead None bytes k c e d = refl
 found-dead (Some None) bytes k c e d = refl
 found-dead (Some (Some b)) bytes k c e d =
-    ap (λ h. set_place k c.buffers (place_of h)) (append-dead bytes k b c.source d)
+    ap (λ h. core_with_slot k c.buffers (slot_of_half h)) (append-dead bytes k b c.source d)
     ∙ ap (λ bs. record { source = c.source; buffers = bs }) (set-same c.buffers k (Some b) e)
 
 pub some-dead : (x : Option (List ℕ)) (k : ℕ) (c : Core) → (c.source.error == 0) ≡ false → lowest c.buffers ≡ None → drain_core (append_some x k c) ≡ c

@@ -72,7 +72,7 @@ fn push_calls(
     Ok(())
 }
 
-fn boxed(alloc: Global, rules: Vec<Rule>) -> Result<Box<RuleListener>, OutOfMemory> {
+fn boxed_listener(alloc: Global, rules: Vec<Rule>) -> Result<Box<RuleListener>, OutOfMemory> {
     let mut listener = RuleListener::new(alloc);
     listener.set_rules(rules);
     let listener = Box::new(alloc, listener)?;
@@ -82,7 +82,7 @@ fn boxed(alloc: Global, rules: Vec<Rule>) -> Result<Box<RuleListener>, OutOfMemo
 /// What a listener with these rules calls on each of these events, at most six calls each.
 fn answers(alloc: Global, rules: Vec<Rule>, events: &[Event]) -> Result<String, OutOfMemory> {
     let mut text = String::new(alloc);
-    let mut listener: Box<dyn Listener> = boxed(alloc, rules)?;
+    let mut listener: Box<dyn Listener> = boxed_listener(alloc, rules)?;
     for event in events {
         listener.hear(event)?;
         push_calls(&mut text, &mut listener, 6)?;
@@ -140,7 +140,7 @@ fn heard_before_asked(rt: HostRuntime) -> Result<(), Fail> {
         rule(alloc, PLAY, 2, false, &[3])?,
     ]?;
     let mut text = String::new(alloc);
-    let mut listener: Box<dyn Listener> = boxed(alloc, rules)?;
+    let mut listener: Box<dyn Listener> = boxed_listener(alloc, rules)?;
     listener.hear(&OPEN)?;
     push_calls(&mut text, &mut listener, 1)?;
     listener.hear(&PLAY)?;
@@ -161,7 +161,7 @@ fn many_calls(rt: HostRuntime) -> Result<(), Fail> {
             numbers.push(k)?;
         }
         let rules = vec![in alloc; rule(alloc, OPEN, 1, false, numbers.as_slice())?]?;
-        let mut listener: Box<dyn Listener> = boxed(alloc, rules)?;
+        let mut listener: Box<dyn Listener> = boxed_listener(alloc, rules)?;
         listener.hear(&OPEN)?;
         for k in 0..count {
             assert!(rt; matches!(listener.next(None)?, Some(Call::Abort(n)) if n == k));
@@ -183,7 +183,7 @@ fn many_rules(rt: HostRuntime) -> Result<(), Fail> {
         };
         rules.push(rule(alloc, on, 1, false, &[k])?)?;
     }
-    let mut listener: Box<dyn Listener> = boxed(alloc, rules)?;
+    let mut listener: Box<dyn Listener> = boxed_listener(alloc, rules)?;
     for k in 0..50u32 {
         listener.hear(&Event {
             target: Target::Buffer(k),

@@ -39,7 +39,7 @@ pub record IsIntersection (left right met : List Span) : Type 0 where
 -- the normalized ranges whose ticks are those of the given spans, but for those from `from` on and below `to`
 pub record IsDifference (from to : ℤ) (given left : List Span) : Type 0 where
   pub same : (t : ℤ) →
-    has_tick_in left t ≡ (has_tick_in given t && not (int_le from t && int_lt t to))
+      has_tick_in left t ≡ (has_tick_in given t && not (int_le from t && int_lt t to))
   pub normalized : IsNormalized left
 
 -- the tick is one of the spans, or lies between two of their ticks with at most `gap` ticks between the two

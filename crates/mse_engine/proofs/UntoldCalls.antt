@@ -29,7 +29,7 @@ use Rattle.mse_engine.specs.Replies.{ready_after, surroundings_in}
 use Rattle.mse_engine.specs.CoreEffects.{CoreEffect, refused_effect, if_finite}
 use Rattle.mse_engine.specs.BufferCalls.{append_effect, append_effect_of, mode_effect, offset_effect, reply_effect}
 use Rattle.mse_engine.specs.Calls.{after_call, refused_or}
-use Rattle.mse_engine.specs.Refusals.{IsOtherwiseQuota, call_refusal, refusal_if_finite, refusal_if_there, refused_name}
+use Rattle.mse_engine.specs.Refusals.{IsQuotaIfUntold, call_refusal, refusal_if_finite, refusal_if_there, refused_name}
 use Rattle.mse_engine.proofs.Refusing.{named}
 
 -- ---- calls whose refusal is what they would answer
@@ -42,14 +42,14 @@ told_all a name none is =
 
 -- ---- the others
 
-abbrev IsQuotaIfUntold : Option Name → CoreEffect → State → Name → Type 0
-IsQuotaIfUntold o m st name = o ≡ None → m.refused ≡ Some name → m.core ≡ st.core → name ≡ QuotaExceeded
+abbrev IsEffectQuotaIfUntold : Option Name → CoreEffect → State → Name → Type 0
+IsEffectQuotaIfUntold o m st name = o ≡ None → m.refused ≡ Some name → m.core ≡ st.core → name ≡ QuotaExceeded
 
-by_made : (b : Bool) (o : Option Name) (m : CoreEffect) (st : State) (name : Name) → IsQuotaIfUntold o m st name → IsQuotaIfUntold (cond b o (Some NoSuchBuffer)) (cond b m (refused_effect NoSuchBuffer st.core)) st name
+by_made : (b : Bool) (o : Option Name) (m : CoreEffect) (st : State) (name : Name) → IsEffectQuotaIfUntold o m st name → IsEffectQuotaIfUntold (cond b o (Some NoSuchBuffer)) (cond b m (refused_effect NoSuchBuffer st.core)) st name
 by_made true o m st name h = h
 by_made false o m st name h = λ none is same. absurd (cc)
 
-by_finite : (t : Moment) (o : Option Name) (m : ℤ → CoreEffect) (st : State) (name : Name) → ((u : ℤ) → IsQuotaIfUntold o (m u) st name) → IsQuotaIfUntold (refusal_if_finite t o) (if_finite t m st.core) st name
+by_finite : (t : Moment) (o : Option Name) (m : ℤ → CoreEffect) (st : State) (name : Name) → ((u : ℤ) → IsEffectQuotaIfUntold o (m u) st name) → IsEffectQuotaIfUntold (refusal_if_finite t o) (if_finite t m st.core) st name
 by_finite Nan o m st name h = λ none is same. absurd (cc)
 by_finite (At u) o m st name h = h u
 by_finite Infinite o m st name h = λ none is same. absurd (cc)
@@ -99,7 +99,7 @@ in_slot_phase k refusal media c name (Some (Some b)) phase none is same = in_pha
 
 setting_untold : (k : ℕ) (refusal : Feed → Content → Option Name) (media : Content → Media) (st : State) (name : Name)
     → ((f : Feed) (x : Content) → refusal f x ≡ None → phase_refusal (surroundings_in k st.core.source) f ≡ None)
-    → IsQuotaIfUntold (refusal_on_buffer k InvalidState refusal st.core.buffers) (reply_effect k (result_on_buffer k InvalidState st.core.source.state.duration (setting refusal media (surroundings_in k st.core.source)) st.core.buffers) st.core) st name
+    → IsEffectQuotaIfUntold (refusal_on_buffer k InvalidState refusal st.core.buffers) (reply_effect k (result_on_buffer k InvalidState st.core.source.state.duration (setting refusal media (surroundings_in k st.core.source)) st.core.buffers) st.core) st name
 setting_untold k refusal media st name phase none is same = in_slot_phase k refusal media st.core name (slice_get st.core.buffers k) phase none is (ap (λ (c : Core). c.source.state.ready) same)
 
 mode_phase : (mode : Mode) (a : Surroundings) (f : Feed) (c : Content) → mode_refusal mode a f c ≡ None → phase_refusal a f ≡ None
@@ -107,10 +107,10 @@ mode_phase mode a f c none =
     let wrong : Bool = c.media.settings.generate && not (is_sequence mode) in
     none_behind wrong TypeError (phase_refusal a f) (none_behind (is_updating f.running) InvalidState (cond wrong (Some TypeError) (phase_refusal a f)) none)
 
-mode_untold : (k : ℕ) (mode : Mode) (st : State) (name : Name) → IsQuotaIfUntold (refusal_on_buffer k InvalidState (mode_refusal mode (surroundings_in k st.core.source)) st.core.buffers) (mode_effect k mode st.core) st name
+mode_untold : (k : ℕ) (mode : Mode) (st : State) (name : Name) → IsEffectQuotaIfUntold (refusal_on_buffer k InvalidState (mode_refusal mode (surroundings_in k st.core.source)) st.core.buffers) (mode_effect k mode st.core) st name
 mode_untold k mode st name = let a = surroundings_in k st.core.source in setting_untold k (mode_refusal mode a) (λ c. with_mode (is_sequence mode) c.media) st name (mode_phase mode a)
 
-offset_untold : (k : ℕ) (t : Moment) (st : State) (name : Name) → IsQuotaIfUntold (call_refusal [] (call.SetTimestampOffset k t) st) (offset_effect k t st.core) st name
+offset_untold : (k : ℕ) (t : Moment) (st : State) (name : Name) → IsEffectQuotaIfUntold (call_refusal [] (call.SetTimestampOffset k t) st) (offset_effect k t st.core) st name
 offset_untold k t st name =
     let a = surroundings_in k st.core.source in
     let here : Option Name = refusal_on_buffer k InvalidState (λ f c. offset_refusal a f) st.core.buffers in
@@ -141,18 +141,18 @@ in_slot_quota k bytes position quota c name (Some (Some b)) none is =
     let did : append_result (record { bytes = bytes; position = position; quota = quota }) a b.feed b.content ≡ append_result_after_eviction (record { bytes = bytes; position = position; quota = quota }) a b.feed b.content = ap (λ (o : Option Name). unless_refused o (append_result_after_eviction (record { bytes = bytes; position = position; quota = quota }) a b.feed b.content) a b.feed b.content) none in
     after_eviction bytes position quota a b.feed b.content name (sym (ap (λ (r : CallResult). r.reply.refused) did) ∙ is)
 
-bytes_untold : (bytes : Option (List ℕ)) (k : ℕ) (st : State) (name : Name) → IsQuotaIfUntold (refusal_if_there bytes (refusal_on_buffer k InvalidState (λ f c. append_refusal (surroundings_in k st.core.source) f) st.core.buffers)) (append_effect_of bytes k st.outer.element.position st.core) st name
+bytes_untold : (bytes : Option (List ℕ)) (k : ℕ) (st : State) (name : Name) → IsEffectQuotaIfUntold (refusal_if_there bytes (refusal_on_buffer k InvalidState (λ f c. append_refusal (surroundings_in k st.core.source) f) st.core.buffers)) (append_effect_of bytes k st.outer.element.position st.core) st name
 bytes_untold None k st name = λ none is same. absurd (cc)
 bytes_untold (Some bytes) k st name = λ none is same. in_slot_quota k bytes st.outer.element.position st.core.source.quota st.core name (slice_get st.core.buffers k) none is
 
-append_untold : (blobs : List (List ℕ)) (k : ℕ) (piece : Piece) (st : State) (name : Name) → IsQuotaIfUntold (call_refusal blobs (call.AppendBuffer k piece) st) (append_effect blobs piece k st.outer.element.position st.core) st name
+append_untold : (blobs : List (List ℕ)) (k : ℕ) (piece : Piece) (st : State) (name : Name) → IsEffectQuotaIfUntold (call_refusal blobs (call.AppendBuffer k piece) st) (append_effect blobs piece k st.outer.element.position st.core) st name
 append_untold blobs k piece st name =
     let here : Option Name = refusal_on_buffer k InvalidState (λ f c. append_refusal (surroundings_in k st.core.source) f) st.core.buffers in
     by_made (nat_lt k (length st.core.buffers)) (refusal_if_there (bytes_of blobs piece) here) (append_effect_of (bytes_of blobs piece) k st.outer.element.position st.core) st name (bytes_untold (bytes_of blobs piece) k st name)
 
 -- ---- all calls
 
-pub tells_all_but_quota : (blobs : List (List ℕ)) (c : Call) (st : State) → IsOtherwiseQuota blobs c st
+pub tells_all_but_quota : (blobs : List (List ℕ)) (c : Call) (st : State) → IsQuotaIfUntold blobs c st
 tells_all_but_quota blobs (call.SetMode k mode) st = λ name none is same. mode_untold k mode st name none (answered (mode_effect k mode st.core) name is) same
 tells_all_but_quota blobs (call.SetTimestampOffset k t) st = λ name none is same. offset_untold k t st name none (answered (offset_effect k t st.core) name is) same
 tells_all_but_quota blobs (call.AppendBuffer k piece) st = λ name none is same. append_untold blobs k piece st name none (answered (append_effect blobs piece k st.outer.element.position st.core) name is) same

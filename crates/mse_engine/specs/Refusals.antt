@@ -93,8 +93,8 @@ IsRefusedAsNamed blobs c st =
 
 -- A call that is refused though its refusal is no name was an append, for the quota, or had an effect before: the source
 -- and its buffers are not as they were.
-abbrev pub IsOtherwiseQuota : List (List ℕ) → Call → State → Type 0
-IsOtherwiseQuota blobs c st =
+abbrev pub IsQuotaIfUntold : List (List ℕ) → Call → State → Type 0
+IsQuotaIfUntold blobs c st =
     (name : Name) → call_refusal blobs c st ≡ None
     → (after_call blobs c st).answer ≡ answer.Refused name
     → (after_call blobs c st).state.core ≡ st.core → name ≡ QuotaExceeded

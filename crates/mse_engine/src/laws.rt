@@ -8,7 +8,7 @@ ghost use Rattle.mse_calls.specs.declared.events.Event.{Event};
 ghost use Rattle.mse_engine.specs.State.{State};
 ghost use Rattle.mse_engine.specs.Work.{after_element_turn, after_work, fire_result};
 ghost use Rattle.mse_engine.specs.Progress.{IsOneEventLess, steps_left};
-ghost use Rattle.mse_engine.specs.Refusals.{IsOtherwiseQuota, IsRefusedAsNamed};
+ghost use Rattle.mse_engine.specs.Refusals.{IsQuotaIfUntold, IsRefusedAsNamed};
 
 /// A call whose refusal is a name is refused by it, and nothing comes of it: the source and its
 /// buffers stay as they are, and the element hears nothing but the end of the step. A call that is
@@ -17,7 +17,7 @@ pub fn refusals()
     ensures told { (blobs : List (List ℕ)) (call : Call) (st : State)
         → IsRefusedAsNamed blobs call st }
     ensures all { (blobs : List (List ℕ)) (call : Call) (st : State)
-        → IsOtherwiseQuota blobs call st }
+        → IsQuotaIfUntold blobs call st }
 {}
 
 /// A drain, in which no call is made, ends: at every state a step of running work and a turn of the

@@ -79,7 +79,8 @@ sample_run track samples = record {
   id = track.info.id;
   decode = first_decode samples + track.lag;
   time =
-      media_ticks (pos (first_decode samples + track.lag) -ℤ track.info.media_shift) track.info.scale;
+      media_ticks (pos (first_decode samples + track.lag) -ℤ track.info.media_shift)
+      track.info.scale;
   samples = samples;
 }
 

@@ -68,12 +68,12 @@ range_parts track stsd t e =
     shift_of : (z : ℤ) → int_le z (pos (2 ^ 31 - 1)) ≡ true → z ≤ℤ pos (2 ^ 31 - 1)
     shift_of z h = grind (arith, ints)
 
-pub record HasFewSamples (before : Totals) (t : SampleTables) : Type 0 where
+pub record HasFewSamplesAndBytes (before : Totals) (t : SampleTables) : Type 0 where
   pub samples : before.samples + sample_count t.sizes ≤ 2 ^ 22
   pub bytes : before.bytes + sum (sizes_of t.sizes) ≤ 2 ^ 30
   pub each : list_all (λ size. leb size (2 ^ 26)) (sizes_of t.sizes) ≡ true
 
-pub few_parts : (before : Totals) (t : SampleTables) → are_few before t ≡ true → HasFewSamples before t
+pub few_parts : (before : Totals) (t : SampleTables) → are_few before t ≡ true → HasFewSamplesAndBytes before t
 unfolding are_few
 few_parts before t e =
     let a = both_true (leb (before.samples + sample_count t.sizes) (2 ^ 22)) _ e in

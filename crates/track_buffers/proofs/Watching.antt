@@ -26,6 +26,7 @@ use Rattle.track_buffers.specs.declared.watch.Watch.{Watch}
 use Rattle.track_buffers.specs.Watching.{end_or, is_ended_at, least_with, least_after, least_after_end, HasLeast, IsWatchOf}
 use Rattle.track_buffers.specs.Frames.{AreFramesSetAt, track_frames}
 use Rattle.track_buffers.proofs.Ranging.{ranges_same}
+use Rattle.track_buffers.proofs.Sharing.{IsEndedBy}
 use Rattle.track_buffers.proofs.Loops.{found_at, set_itself}
 use Rattle.track_buffers.proofs.Editing.{get_set}
 
@@ -159,9 +160,6 @@ count_set : (e : ℤ) (os : List (Option Span)) (i : ℕ) (o p : Option Span) �
 count_set e os i o p here =
     ap (λ (q : Option Span). count_by (is_ended_at e) (set os i p) + one (is_ended_at e q)) (sym (get_or_from_slice_get os i o None here))
     ∙ sum_by-set (λ (q : Option Span). one (is_ended_at e q)) os i p None (slice_get_within os i o here)
-
-abbrev IsEndedBy : ℤ → Option Span → Type 0
-IsEndedBy e o = IfSome o (λ s. s.end ≤ℤ e)
 
 least_of : (a b e : ℤ) → a ≤ℤ e → int_min a b ≤ℤ e
 least_of a b e h = grind (arith, ints)

@@ -7,7 +7,7 @@ ghost use Rattle.std.specs.Prelude.{◌≡◌, ◌+◌, ◌≤◌, ◌++◌, ◌
 ghost use Rattle.std.specs.Vec.{vec_capacity};
 ghost use Rattle.listeners.specs.Notes.{told_note};
 
-use super::{OPEN, boxed};
+use super::{OPEN, boxed_listener};
 use crate::*;
 use event_text::{event_line, listener_line, script_line};
 use mse_base::{Bytes, OutOfMemory, OwnedList, Text, Ticks};
@@ -164,7 +164,7 @@ fn answering(
         repeat,
         calls: OwnedList::from_vec(calls),
     };
-    boxed(alloc, vec![in alloc; rule]?)
+    boxed_listener(alloc, vec![in alloc; rule]?)
 }
 
 /// A type with no codec that is named.

@@ -3,7 +3,7 @@
 //!
 //! An allocation is refused from outside, by `rt try --test --fail-alloc` or by `bench/refused.py` of the repository.
 
-use super::{ENDED, OPEN, PLAY, boxed};
+use super::{ENDED, OPEN, PLAY, boxed_listener};
 use crate::Listener;
 use mse_base::{OutOfMemory, OwnedList, Text};
 use mse_calls::{Answer, Call, Event, Rule};
@@ -37,7 +37,7 @@ fn rules_once(alloc: Global) -> Result<Vec<Rule>, OutOfMemory> {
 }
 
 fn listener_once(alloc: Global) -> Result<Box<dyn Listener>, OutOfMemory> {
-    let listener = boxed(alloc, rules_once(alloc)?)?;
+    let listener = boxed_listener(alloc, rules_once(alloc)?)?;
     Ok(listener)
 }
 

@@ -71,7 +71,10 @@ fn make(scene: &mut DispatchScene, call: Call) -> Result<(), OutOfMemory> {
 }
 
 /// An opened source, whose first event waits.
-fn opened(alloc: Global, listeners: Vec<Box<dyn Listener>>) -> Result<DispatchScene, OutOfMemory> {
+fn opened_scene(
+    alloc: Global,
+    listeners: Vec<Box<dyn Listener>>,
+) -> Result<DispatchScene, OutOfMemory> {
     let mut scene = new_scene(alloc, listeners, LIMIT)?;
     make(&mut scene, Call::Attach)?;
     // the place of the event that is fired next
@@ -80,7 +83,7 @@ fn opened(alloc: Global, listeners: Vec<Box<dyn Listener>>) -> Result<DispatchSc
 }
 
 fn scene_once(alloc: Global) -> Result<DispatchScene, OutOfMemory> {
-    opened(alloc, listeners(alloc)?)
+    opened_scene(alloc, listeners(alloc)?)
 }
 
 fn scene(alloc: Global) -> Result<DispatchScene, OutOfMemory> {
@@ -92,7 +95,7 @@ fn scene(alloc: Global) -> Result<DispatchScene, OutOfMemory> {
 
 /// The same source with the first calls of the listeners, which are made without any.
 fn replay_once(alloc: Global, count: usize) -> Result<DispatchScene, OutOfMemory> {
-    let mut scene = opened(alloc, Vec::new(alloc))?;
+    let mut scene = opened_scene(alloc, Vec::new(alloc))?;
     scene.engine.fire();
     for call in calls(alloc)?.into_iter().take(count) {
         make(&mut scene, call)?;
@@ -114,7 +117,7 @@ fn text(alloc: Global, scene: &DispatchScene) -> Result<String, OutOfMemory> {
     }
 }
 
-fn shown_once(alloc: Global, scene: &DispatchScene) -> Result<Text, OutOfMemory> {
+fn scene_text_once(alloc: Global, scene: &DispatchScene) -> Result<Text, OutOfMemory> {
     match scene.engine.view() {
         Ok(view) => closing(alloc, &view, true),
         Err(_) => Err(OutOfMemory),
@@ -122,10 +125,10 @@ fn shown_once(alloc: Global, scene: &DispatchScene) -> Result<Text, OutOfMemory>
 }
 
 /// What an engine shows, as it is printed at the end of a run.
-fn shown(alloc: Global, scene: &DispatchScene) -> Result<Text, OutOfMemory> {
-    match shown_once(alloc, scene) {
+fn scene_text(alloc: Global, scene: &DispatchScene) -> Result<Text, OutOfMemory> {
+    match scene_text_once(alloc, scene) {
         Ok(text) => Ok(text),
-        Err(_) => shown_once(alloc, scene),
+        Err(_) => scene_text_once(alloc, scene),
     }
 }
 
@@ -136,8 +139,8 @@ fn check_alike(
     scene: &mut DispatchScene,
     other: &mut DispatchScene,
 ) -> Result<(), Fail> {
-    let this = shown(alloc, scene)?;
-    let that = shown(alloc, other)?;
+    let this = scene_text(alloc, scene)?;
+    let that = scene_text(alloc, other)?;
     assert_eq!(rt; this.as_str(), that.as_str());
     for _ in 0..10 {
         assert_eq!(rt; scene.engine.fire(), other.engine.fire());
