@@ -40,15 +40,15 @@ pub fn frames_law()
 pub fn place_law()
     ensures init { (r : StringReading) (p : Presentation) (offset : ℕ) →
         next_item r ≡ Some (InitItem p offset) → IsInitAt r.whole offset p }
-    ensures frame { (r : StringReading) (frame : CodedFrame) (offset : ℕ) →
+    ensures header { (r : StringReading) (frame : CodedFrame) (offset : ℕ) →
         next_item r ≡ Some (FrameItem frame offset) → IsFrameAt r.whole offset frame }
-    ensures payload { (r : StringReading) (frame : CodedFrame) (offset : ℕ) →
+    ensures frame { (r : StringReading) (frame : CodedFrame) (offset : ℕ) →
         next_item r ≡ Some (FrameItem frame offset) →
         frame.payload ≡ slice_range r.whole offset (offset + length frame.payload) }
     ensures there { (r : StringReading) (frame : CodedFrame) (offset : ℕ) →
         next_item r ≡ Some (FrameItem frame offset) →
         offset + length frame.payload ≤ length r.whole }
-    ensures fault { (r : StringReading) (f : AdtsFault) (offset : ℕ) →
+    ensures refused { (r : StringReading) (f : AdtsFault) (offset : ℕ) →
         next_item r ≡ Some (FaultItem f offset) → found_at (drop offset r.whole) ≡ found.Fault f }
 {}
 

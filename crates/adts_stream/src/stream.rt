@@ -226,7 +226,7 @@ impl AdtsStream {
     /// Whether the parser waits for a segment, before the next item, or at the end of the string where there
     /// is none. Else it is in a media segment: the header of a frame was accepted, and its segment is not at
     /// its end.
-    pub fn is_waiting(&self) -> bool
+    pub fn waiting(&self) -> bool
         requires { self.now.offered ≡ None }
         ensures value { IsTrue result ↔ (phase_of self.now.state.point ≡ Waiting) }
         ensures phase { ForEachReading self.now.state (λ r.

@@ -91,26 +91,26 @@ trafs-last own (Ok rest) count n slots l g e =
     let q : own ++ rest ≡ slots = cc in
     omega (arith, g rest refl, length-append own rest, ap length q)
 
-abbrev HaveFewSlots : List TrackInfo → List (List ℕ) → Type 0
-HaveFewSlots tracks trafs = (n : ℕ) (end : ℤ) (rest : List Slot) → n ≤ 2 ^ 20 → trafs_of tracks n end trafs ≡ Ok rest → n + length rest ≤ 2 ^ 20
+abbrev HasFewSlots : List TrackInfo → List (List ℕ) → Type 0
+HasFewSlots tracks trafs = (n : ℕ) (end : ℤ) (rest : List Slot) → n ≤ 2 ^ 20 → trafs_of tracks n end trafs ≡ Ok rest → n + length rest ≤ 2 ^ 20
 
-trafs-runs : (tracks : List TrackInfo) (fragment : TrackFragment) (count : ℕ) (trafs : List (List ℕ)) (slots : List Slot) (r : Result (List Run) MoofFault) → ((runs : List Run) → r ≡ Ok runs → count + length (samples_in runs) ≤ 2 ^ 20) → HaveFewSlots tracks trafs → (r >>= (λ runs. trafs_of tracks (count + length (samples_in runs)) (data_end fragment.base runs) trafs >>= (λ rest. Ok (media_slots fragment.track (slots_behind fragment.track fragment.decode_time [] runs) ++ rest)))) ≡ Ok slots → count + length slots ≤ 2 ^ 20
+trafs-runs : (tracks : List TrackInfo) (fragment : TrackFragment) (count : ℕ) (trafs : List (List ℕ)) (slots : List Slot) (r : Result (List Run) MoofFault) → ((runs : List Run) → r ≡ Ok runs → count + length (samples_in runs) ≤ 2 ^ 20) → HasFewSlots tracks trafs → (r >>= (λ runs. trafs_of tracks (count + length (samples_in runs)) (data_end fragment.base runs) trafs >>= (λ rest. Ok (media_slots fragment.track (slots_behind fragment.track fragment.decode_time [] runs) ++ rest)))) ≡ Ok slots → count + length slots ≤ 2 ^ 20
 trafs-runs tracks fragment count trafs slots (Err f) g h e = cc
 trafs-runs tracks fragment count trafs slots (Ok runs) g h e =
     let own = slots_behind fragment.track fragment.decode_time [] runs in
     let n = length (samples_in runs) in
     trafs-last (media_slots fragment.track own) (trafs_of tracks (count + n) (data_end fragment.base runs) trafs) count n slots (omega (arith, length-kept (is_media fragment.track.kind) own, length-behind fragment.track fragment.decode_time [] runs)) (λ rest w. h (count + n) (data_end fragment.base runs) rest (g runs refl) w) e
 
-trafs-fragment : (tracks : List TrackInfo) (count : ℕ) (end : ℤ) (row : List BoxView) (trafs : List (List ℕ)) (slots : List Slot) (r : Result TrackFragment MoofFault) → count ≤ 2 ^ 20 → HaveFewSlots tracks trafs → (r >>= (λ fragment. runs_of fragment count fragment.base (all_of (codes "trun") row) >>= (λ runs. trafs_of tracks (count + length (samples_in runs)) (data_end fragment.base runs) trafs >>= (λ rest. Ok (media_slots fragment.track (slots_behind fragment.track fragment.decode_time [] runs) ++ rest))))) ≡ Ok slots → count + length slots ≤ 2 ^ 20
+trafs-fragment : (tracks : List TrackInfo) (count : ℕ) (end : ℤ) (row : List BoxView) (trafs : List (List ℕ)) (slots : List Slot) (r : Result TrackFragment MoofFault) → count ≤ 2 ^ 20 → HasFewSlots tracks trafs → (r >>= (λ fragment. runs_of fragment count fragment.base (all_of (codes "trun") row) >>= (λ runs. trafs_of tracks (count + length (samples_in runs)) (data_end fragment.base runs) trafs >>= (λ rest. Ok (media_slots fragment.track (slots_behind fragment.track fragment.decode_time [] runs) ++ rest))))) ≡ Ok slots → count + length slots ≤ 2 ^ 20
 trafs-fragment tracks count end row trafs slots (Err f) l h e = cc
 trafs-fragment tracks count end row trafs slots (Ok fragment) l h e =
     trafs-runs tracks fragment count trafs slots (runs_of fragment count fragment.base (all_of (codes "trun") row)) (λ runs w. runs-few fragment count fragment.base (all_of (codes "trun") row) runs l w) h e
 
-trafs-row : (tracks : List TrackInfo) (count : ℕ) (end : ℤ) (trafs : List (List ℕ)) (slots : List Slot) (o : Option (List BoxView)) → count ≤ 2 ^ 20 → HaveFewSlots tracks trafs → (need Size o >>= (λ row. track_fragment_of tracks end row >>= (λ fragment. runs_of fragment count fragment.base (all_of (codes "trun") row) >>= (λ runs. trafs_of tracks (count + length (samples_in runs)) (data_end fragment.base runs) trafs >>= (λ rest. Ok (media_slots fragment.track (slots_behind fragment.track fragment.decode_time [] runs) ++ rest)))))) ≡ Ok slots → count + length slots ≤ 2 ^ 20
+trafs-row : (tracks : List TrackInfo) (count : ℕ) (end : ℤ) (trafs : List (List ℕ)) (slots : List Slot) (o : Option (List BoxView)) → count ≤ 2 ^ 20 → HasFewSlots tracks trafs → (need Size o >>= (λ row. track_fragment_of tracks end row >>= (λ fragment. runs_of fragment count fragment.base (all_of (codes "trun") row) >>= (λ runs. trafs_of tracks (count + length (samples_in runs)) (data_end fragment.base runs) trafs >>= (λ rest. Ok (media_slots fragment.track (slots_behind fragment.track fragment.decode_time [] runs) ++ rest)))))) ≡ Ok slots → count + length slots ≤ 2 ^ 20
 trafs-row tracks count end trafs slots None l h e = cc
 trafs-row tracks count end trafs slots (Some row) l h e = trafs-fragment tracks count end row trafs slots (track_fragment_of tracks end row) l h e
 
-trafs-few : (tracks : List TrackInfo) (trafs : List (List ℕ)) → HaveFewSlots tracks trafs
+trafs-few : (tracks : List TrackInfo) (trafs : List (List ℕ)) → HasFewSlots tracks trafs
 unfolding trafs_of
 trafs-few tracks [] n end rest l e = let q : [] ≡ rest = cc in omega (arith, ap length q)
 trafs-few tracks (traf ∷ trafs) n end rest l e = trafs-row tracks n end trafs rest (row_of traf) l (trafs-few tracks trafs) e

@@ -39,7 +39,7 @@ fn ready_frames(alloc: Global, stream: &ByteStream) -> Result<Vec<CodedFrame>, O
     requires { stream.now.offered ≡ None }
     ensures frames { ForEachReading stream.now (λ r.
         IfOk result (λ frames. frames.items ≡ ready_at r)) }
-    ensures changes { IfOk result (λ frames. length frames.items ≤ ready_of stream.now) }
+    ensures at_most_ready { IfOk result (λ frames. length frames.items ≤ ready_of stream.now) }
     ensures dur_not_negative { IfOk result (λ frames.
         AllByRecursion (λ f. pos 0 ≤ℤ f.dur) frames.items) }
 {

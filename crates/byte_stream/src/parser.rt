@@ -207,7 +207,7 @@ fn frame_phase(stream: &AdtsStream) -> Phase
     requires { stream.now.offered ≡ None }
     ensures { result ≡ phase_of_point stream.now.state.point }
 {
-    if stream.is_waiting() {
+    if stream.waiting() {
         Phase::Waiting
     } else {
         Phase::InMedia

@@ -368,7 +368,7 @@ fn listener(alloc: Global) -> Result<Box<RuleListener>, AllocError>
 }
 
 /// What is printed for the words over a library with two listeners, and the status.
-fn ran<S: FrameStore, L: Library>(
+fn result_with_library<S: FrameStore, L: Library>(
     alloc: Global,
     words: &[&str],
     library: &mut L,
@@ -401,7 +401,7 @@ fn play_result<S: FrameStore>(alloc: Global, script: &str) -> Result<(Status, Me
         tables: &tables,
         faults: 0,
     };
-    ran::<S, TextLibrary>(alloc, &["play", "script.toml"], &mut library)
+    result_with_library::<S, TextLibrary>(alloc, &["play", "script.toml"], &mut library)
 }
 
 #[test]

@@ -84,7 +84,7 @@ fn latest_from<S: FrameStore>(
     requires below { is_below next.now low ≡ true }
     ensures latest { IsLatest next.now (times_at lead
         (states_of S.frames tracks.now.items)) result }
-    ensures later { low ≤ℤ result }
+    ensures not_earlier { low ≤ℤ result }
 {
     let mut high = highest(tracks, lead, low, next);
     while low < high {

@@ -63,7 +63,7 @@ pub fn highest_start<S: FrameStore>(tracks: &Tracks<S>, lead: usize) -> Option<T
 
 fn next_tick(t: Ticks) -> Option<Ticks>
     ensures value { result ≡ tick (t +ℤ pos 1) }
-    ensures from { IsTick t }
+    ensures is_tick { IsTick t }
 {
     Ticks::new(t.get() + 1)
 }

@@ -107,7 +107,7 @@ fn plain_times_at<S: FrameStore>(
 ) -> Option<Times>
     ensures timing { IfSome (slice_get tracks.now.items index) (λ t. IfSome result
         (λ w. Some (timing_by settings.now w) ≡ timing_of settings.now t.marks frame.now)) }
-    ensures generate { OnSome result (settings.now.generate ≡ false) }
+    ensures no_generate { OnSome result (settings.now.generate ≡ false) }
 {
     match tracks.get(index) {
         Some(track) => plain_times(settings, &track.marks, frame),
@@ -212,7 +212,7 @@ fn place_plain<S: FrameStore>(
         (λ t. IsReadyForFrame S.frames S.spare (length frame.payload) t) }
     requires dur_not_negative { pos 0 ≤ℤ frame.dur }
     requires timed { IsTimingOf frame (timing_by settings.old times.now) }
-    requires generate { settings.old.generate ≡ false }
+    requires no_generate { settings.old.generate ≡ false }
     ensures placement { new_placement result (states_of S.frames tracks.new.items) settings.new
         ≡ placement_at_times (timing_by settings.old times.now) frame index
         (states_of S.frames tracks.old.items) }
@@ -288,7 +288,7 @@ pub fn place_with_used<S: FrameStore>(
 ) -> Placed
     requires used { used ≡ bytes_in (states_of S.frames tracks.old.items) }
     requires in_range { index < length tracks.old.items }
-    requires spare { IfSome (slice_get tracks.old.items index) (λ t. 1 ≤ S.spare t.store) }
+    requires room { IfSome (slice_get tracks.old.items index) (λ t. 1 ≤ S.spare t.store) }
     requires sound { IfSome (slice_get (states_of S.frames tracks.old.items) index) IsSound }
     requires small { bytes_in (states_of S.frames tracks.old.items) < 2 ^ 62 }
     requires window_start { pos 0 ≤ℤ settings.old.window_start }
@@ -331,7 +331,7 @@ pub fn place<S: FrameStore>(
     frame: CodedFrame,
 ) -> Placed
     requires in_range { index < length tracks.old.items }
-    requires spare { IfSome (slice_get tracks.old.items index) (λ t. 1 ≤ S.spare t.store) }
+    requires room { IfSome (slice_get tracks.old.items index) (λ t. 1 ≤ S.spare t.store) }
     requires sound { IfSome (slice_get (states_of S.frames tracks.old.items) index) IsSound }
     requires small { bytes_in (states_of S.frames tracks.old.items) < 2 ^ 62 }
     requires window_start { pos 0 ≤ℤ settings.old.window_start }

@@ -140,7 +140,7 @@ pub fn timing_of(settings: &Settings, marks: &Marks, frame: &CodedFrame) -> Opti
 pub fn plain_times(settings: &Settings, marks: &Marks, frame: &CodedFrame) -> Option<Times>
     ensures timing { IfSome result (λ w. Some (timing_by settings.now w)
         ≡ timing_of settings.now marks.now frame.now) }
-    ensures generate { OnSome result (settings.now.generate ≡ false) }
+    ensures no_generate { OnSome result (settings.now.generate ≡ false) }
 {
     if settings.sequence || settings.generate {
         return None;

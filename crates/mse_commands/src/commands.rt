@@ -262,7 +262,7 @@ fn run_file<S: FrameStore, L: Library, K: Sink>(
 ) -> Result<bool, End>
     requires range { IsInRange command }
     requires file { IsFileCommand command }
-    requires journal { journal.old.entries ≡ [] }
+    requires no_entries { journal.old.entries ≡ [] }
     requires no_engine { engine.old ≡ None }
     ensures works { (count : ℕ) (told : List (List Note)) (given : List (List Rule))
         → HasRequestOfCommand (L.table library.old) name.now (Some command) (λ request.

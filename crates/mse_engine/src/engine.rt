@@ -221,9 +221,9 @@ impl<S: FrameStore> Engine<S> {
     /// duration. There is a state that it stands for. It does nothing when it runs.
     pub fn sound(&self)
         ensures sound { IsSoundEngine self.now }
-        ensures position { IsInside self.now.side.state.duration
+        ensures position_inside { IsInside self.now.side.state.duration
             self.now.element.player.position }
-        ensures duration { has_metadata self.now.element.player.level ≡ true
+        ensures has_duration { has_metadata self.now.element.player.level ≡ true
             → is_nan self.now.side.state.duration ≡ false }
         ensures standing { IsStanding self.now }
     {

@@ -249,8 +249,9 @@ pub(crate) fn finish<S: FrameStore>(
     bounds: &LoadBounds,
 )
     requires room { reply.now.duration_changes + 14 ≤ element.old.spare }
-    requires bounds { is_loading k reply.now (not (has_metadata element.old.state.player.level))
-        side.old.state ≡ true → IsReadyToLoad bounds.now
+    requires ready_to_load { is_loading k reply.now
+        (not (has_metadata element.old.state.player.level)) side.old.state ≡ true
+        → IsReadyToLoad bounds.now
         (reply_view k reply.now side.old buffers.now.buffers element.old.state)
         element.old.state }
     ensures side { side.new ≡ side_after k reply.now side.old }
@@ -282,8 +283,9 @@ fn finish_with_events<S: FrameStore>(
     bounds: &LoadBounds,
 )
     requires room { reply.now.duration_changes + 14 ≤ element.old.spare }
-    requires bounds { is_loading k reply.now (not (has_metadata element.old.state.player.level))
-        side.old.state ≡ true → IsReadyToLoad bounds.now
+    requires ready_to_load { is_loading k reply.now
+        (not (has_metadata element.old.state.player.level)) side.old.state ≡ true
+        → IsReadyToLoad bounds.now
         (reply_view k reply.now side.old buffers.now.buffers element.old.state)
         element.old.state }
     ensures side { side.new ≡ side_after k reply.now side.old }
@@ -324,8 +326,9 @@ pub(crate) fn conclude<S: FrameStore>(
     reply: &Reply,
 ) -> Answer
     requires room { reply.now.duration_changes + 14 ≤ element.old.spare }
-    requires bounds { is_loading k reply.now (not (has_metadata element.old.state.player.level))
-        side.old.state ≡ true → IsReadyToLoad no_bounds
+    requires ready_to_load { is_loading k reply.now
+        (not (has_metadata element.old.state.player.level)) side.old.state ≡ true
+        → IsReadyToLoad no_bounds
         (reply_view k reply.now side.old buffers.now.buffers element.old.state)
         element.old.state }
     ensures side { side.new ≡ side_after k reply.now side.old }

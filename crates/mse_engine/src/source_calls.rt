@@ -164,7 +164,7 @@ fn tell_duration<S: FrameStore>(
     duration: Moment,
 )
     requires room { 2 ≤ element.old.spare }
-    requires now { side.now.state.duration ≡ duration }
+    requires duration_told { side.now.state.duration ≡ duration }
     ensures state { element.new.state
         ≡ after_signal (view_of side.now buffers.now.buffers element.old.state)
         (DurationChanged duration) element.old.state }
@@ -183,7 +183,7 @@ fn tell_change<S: FrameStore>(
     change: Changed,
 )
     requires room { 2 ≤ element.old.spare }
-    requires now { (d : Moment) → change ≡ To d → side.now.state.duration ≡ d }
+    requires duration_told { (d : Moment) → change ≡ To d → side.now.state.duration ≡ d }
     ensures state { element.new.state
         ≡ after_signals (view_of side.now buffers.now.buffers element.old.state)
         (change_signals change) element.old.state }

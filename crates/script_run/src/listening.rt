@@ -15,7 +15,7 @@ pub fn add_listener(
     listeners: &mut Vec<Box<dyn Listener>>,
     listener: Box<dyn Listener>,
 ) -> Result<(), OutOfMemory>
-    requires new { notes listener ≡ [] }
+    requires listener_without_notes { notes listener ≡ [] }
     requires no_notes { (w : ℕ) → notes_at (map (λ b. notes b) listeners.old.items) w ≡ [] }
     ensures ok { OnOk result (listeners.new.items ≡ listeners.old.items ++ listener ∷ []) }
     ensures err { OnErr result (listeners.new.items ≡ listeners.old.items) }

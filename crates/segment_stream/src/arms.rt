@@ -61,7 +61,7 @@ fn leave_on(
     requires inside { len ≤ length (concat input.now) }
     requires readable { IsLast last.now }
     requires small { offset + length (concat input.now) < 2 ^ 62 }
-    ensures same { IfOk result (λ o. kept_of (snapshot last.now o.progress o.tables input.now)
+    ensures kept { IfOk result (λ o. kept_of (snapshot last.now o.progress o.tables input.now)
         ≡ lookahead_from segments (state_behind last.now offset len (concat input.now))) }
     ensures consistent { IfOk result (λ o. IsConsistent o.progress o.tables (concat input.now)) }
     ensures waits { IfOk result (λ o. IsStillBelowWant
@@ -98,7 +98,7 @@ fn enter(
     input: &mut Chunks,
 )
     requires { next_state.progress.from ≤ length (concat input.old) }
-    ensures waits { (last : Option Presentation) →
+    ensures at_front { (last : Option Presentation) →
         IsConsistent next_state.progress next_state.tables (concat input.old) →
         IsStillBelowWant (snapshot last next_state.progress next_state.tables input.old) →
         IsStillAtFront (snapshot last progress.new tables.new input.new) }
@@ -132,7 +132,7 @@ fn init_on(
         (kept_of (snapshot (Some presentation) progress.new tables.new input.new)
         ≡ lookahead_from segments (state_behind (Some presentation) progress.old.position.offset len
         (concat input.old))) }
-    ensures waits { OnOk result
+    ensures at_front { OnOk result
         (IsStillAtFront (snapshot (Some presentation) progress.new tables.new input.new)) }
     ensures unfailed { OnOk result (progress.new.position.failed ≡ false) }
     ensures total { OnOk result (progress.new.position.offset + length (concat input.new)
@@ -167,7 +167,7 @@ fn end_on(
     ensures kept { OnOk result (kept_of (snapshot last.now progress.new tables.new input.new)
         ≡ lookahead_from segments (state_behind last.now progress.old.position.offset end
         (concat input.old))) }
-    ensures waits { OnOk result
+    ensures at_front { OnOk result
         (IsStillAtFront (snapshot last.now progress.new tables.new input.new)) }
     ensures unfailed { OnOk result (progress.new.position.failed ≡ false) }
     ensures total { OnOk result (progress.new.position.offset + length (concat input.new)
@@ -216,7 +216,7 @@ pub(crate) fn next_on(
     tables: &mut Tables,
     input: &mut Chunks,
 ) -> Result<SegmentNext, OutOfMemory>
-    requires waits { IsStillAtFront (snapshot last.old progress.old tables.old input.old) }
+    requires at_front { IsStillAtFront (snapshot last.old progress.old tables.old input.old) }
     requires emptied { IsEmptied progress.old (concat input.old) }
     requires readable { IsLast last.old }
     requires none_empty { HasNoEmptyPiece input.old }
@@ -226,7 +226,7 @@ pub(crate) fn next_on(
         ≡ after_first segments (kept_of (snapshot last.old progress.old tables.old input.old))) }
     ensures last { IfOk result (λ x. last.new ≡ latest_after_any last.old (answer_item x)) }
     ensures readable { IsLast last.new }
-    ensures waits { OnOk result
+    ensures at_front { OnOk result
         (IsStillAtFront (snapshot last.new progress.new tables.new input.new)) }
     ensures emptied { OnOk result (IsEmptied progress.new (concat input.new)) }
     ensures total { OnOk result (progress.new.position.offset + length (concat input.new)

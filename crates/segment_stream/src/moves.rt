@@ -277,7 +277,7 @@ pub(crate) fn run_on(
 ) -> Result<Progress, OutOfMemory>
     requires consistent { IsConsistent start tables.old (concat input.now) }
     requires readable { IsLast last.now }
-    ensures same { IfOk result (λ r. kept_of (snapshot last.now r tables.new input.now)
+    ensures kept { IfOk result (λ r. kept_of (snapshot last.now r tables.new input.now)
         ≡ kept_with_lookahead (kept_of (snapshot last.now start tables.old input.now))) }
     ensures consistent { IfOk result (λ r. IsConsistent r tables.new (concat input.now)) }
     ensures since { IfOk result (λ r.

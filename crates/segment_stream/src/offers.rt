@@ -40,7 +40,7 @@ pub(crate) fn offer_on(
     input: &mut Chunks,
     bytes: Bytes,
 ) -> Result<Progress, OutOfMemory>
-    requires waits { IsStillAtFront (snapshot last.now progress tables.old input.old) }
+    requires at_front { IsStillAtFront (snapshot last.now progress tables.old input.old) }
     requires emptied { IsEmptied progress (concat input.old) }
     requires readable { IsLast last.now }
     requires countable { progress.position.offset + (length (concat input.old) + length bytes)
@@ -53,7 +53,7 @@ pub(crate) fn offer_on(
     ensures err { OnErr result (input.new ≡ input.old) }
     ensures as_before { kept_of (snapshot last.now progress tables.new input.old)
         ≡ kept_of (snapshot last.now progress tables.old input.old) }
-    ensures waits { IsStillAtFront (snapshot last.now progress tables.new input.old) }
+    ensures at_front { IsStillAtFront (snapshot last.now progress tables.new input.old) }
 {
     let len = bytes.len();
     input.push_bytes(bytes)?;
@@ -75,7 +75,7 @@ pub(crate) fn offer_on(
 /// Puts in place what was found. It takes no memory.
 pub(crate) fn accept_on(progress: Progress, input: &mut Chunks) -> Progress
     requires { progress.from ≤ length (concat input.old) }
-    ensures waits { (last : Option Presentation) (tables : Tables) →
+    ensures at_front { (last : Option Presentation) (tables : Tables) →
         IsConsistent progress tables (concat input.old) →
         IsStillBelowWant (snapshot last progress tables input.old) →
         IsStillAtFront (snapshot last result tables input.new) }

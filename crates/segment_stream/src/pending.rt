@@ -72,7 +72,7 @@ fn pending_init(
     input: &Chunks,
     len: u64,
 ) -> Result<PendingItem, OutOfMemory>
-    requires waits { IsStillAtFront (snapshot last.now progress.now tables.now input.now) }
+    requires at_front { IsStillAtFront (snapshot last.now progress.now tables.now input.now) }
     requires unfailed { progress.now.position.failed ≡ false }
     requires active { IsActive progress.now.position.mode }
     requires step { ReadInit len
@@ -98,7 +98,7 @@ fn pending_moof(
     input: &Chunks,
     len: u64,
 ) -> Result<PendingItem, OutOfMemory>
-    requires waits { IsStillAtFront (snapshot last.now progress.now tables.now input.now) }
+    requires at_front { IsStillAtFront (snapshot last.now progress.now tables.now input.now) }
     requires readable { IsLast last.now }
     requires unfailed { progress.now.position.failed ≡ false }
     requires active { IsActive progress.now.position.mode }
@@ -137,7 +137,7 @@ pub(crate) fn pending_item(
     tables: &Tables,
     input: &Chunks,
 ) -> Result<PendingItem, OutOfMemory>
-    requires waits { IsStillAtFront (snapshot last.now progress.now tables.now input.now) }
+    requires at_front { IsStillAtFront (snapshot last.now progress.now tables.now input.now) }
     requires readable { IsLast last.now }
     ensures value { IfOk result
         (IsPendingItem (snapshot last.now progress.now tables.now input.now)) }

@@ -347,7 +347,7 @@ impl Source {
     }
 
     /// How many buffers were ever made. Their numbers are those below it.
-    pub fn made_count(&self) -> u32
+    pub fn made(&self) -> u32
         ensures { result ≡ self.now.made }
     {
         self.made

@@ -67,10 +67,10 @@ set_alone_by answer ts us s t i f is = subst (λ (o : Placement). AreFramesSetAl
 
 -- ---- the numbers stay
 
-abbrev HaveSameIds : List TrackState → List TrackState → Type 0
-HaveSameIds old new = track_ids new ≡ track_ids old
+abbrev HasSameIds : List TrackState → List TrackState → Type 0
+HasSameIds old new = track_ids new ≡ track_ids old
 
-reset_ids : (w : Timing) (ts : List TrackState) → HaveSameIds ts (map (track_after_reset w) ts)
+reset_ids : (w : Timing) (ts : List TrackState) → HasSameIds ts (map (track_after_reset w) ts)
 reset_ids w [] = refl
 reset_ids w (t ∷ ts) = ap (λ (ns : List ℕ). t.id ∷ ns) (reset_ids w ts)
 
@@ -78,25 +78,25 @@ put_id : (o : Option Why) (w : Timing) (f : CodedFrame) (t : TrackState) → (tr
 put_id (Some why) w f t = refl
 put_id None w f t = refl
 
-set_ids : (us : List TrackState) (i : ℕ) (t u : TrackState) → slice_get us i ≡ Some t → u.id ≡ t.id → HaveSameIds us (set us i u)
+set_ids : (us : List TrackState) (i : ℕ) (t u : TrackState) → slice_get us i ≡ Some t → u.id ≡ t.id → HasSameIds us (set us i u)
 set_ids us i t u e same =
     map-set (λ (v : TrackState). v.id) us i u
     ∙ ap (λ (n : ℕ). set (track_ids us) i n) same
     ∙ set_itself (track_ids us) i t.id (slice_get-map (λ (v : TrackState). v.id) us i ∙ ap (option_map (λ (v : TrackState). v.id)) e)
 
-ids_in : (o : Option TrackState) (w : Timing) (f : CodedFrame) (i : ℕ) (us : List TrackState) → slice_get us i ≡ o → HaveSameIds us (placement_in_track o w f i us).tracks
+ids_in : (o : Option TrackState) (w : Timing) (f : CodedFrame) (i : ℕ) (us : List TrackState) → slice_get us i ≡ o → HasSameIds us (placement_in_track o w f i us).tracks
 ids_in None w f i us e = refl
 ids_in (Some t) w f i us e = set_ids us i t (track_after_frame w f t) e (put_id (drop_reason w f.sync t.marks.need_sync) w f t)
 
-ids_by : (o : Option Timing) (s : Settings) (f : CodedFrame) (i : ℕ) (ts : List TrackState) → HaveSameIds ts (placement_by_times o s f i ts).tracks
+ids_by : (o : Option Timing) (s : Settings) (f : CodedFrame) (i : ℕ) (ts : List TrackState) → HasSameIds ts (placement_by_times o s f i ts).tracks
 ids_by None s f i ts = refl
 ids_by (Some w) s f i ts = ids_in (slice_get (map (track_after_reset w) ts) i) w f i (map (track_after_reset w) ts) refl ∙ reset_ids w ts
 
-ids_pick : (b : Bool) (ts : List TrackState) (x y : Placement) → HaveSameIds ts x.tracks → HaveSameIds ts y.tracks → HaveSameIds ts (cond b x y).tracks
+ids_pick : (b : Bool) (ts : List TrackState) (x y : Placement) → HasSameIds ts x.tracks → HasSameIds ts y.tracks → HasSameIds ts (cond b x y).tracks
 ids_pick true ts x y h k = h
 ids_pick false ts x y h k = k
 
-ids_of : (o : Option TrackState) (ts : List TrackState) (s : Settings) (i : ℕ) (f : CodedFrame) → HaveSameIds ts (placement_in o ts s i f).tracks
+ids_of : (o : Option TrackState) (ts : List TrackState) (s : Settings) (i : ℕ) (f : CodedFrame) → HasSameIds ts (placement_in o ts s i f).tracks
 ids_of None ts s i f = refl
 ids_of (Some t) ts s i f = ids_pick (is_over_limit t.marks.received (bytes_in ts) (length f.payload)) ts (new_placement placed_as.Counts ts s) (placement_by_times (timing_of s t.marks f) s f i ts) refl (ids_by (timing_of s t.marks f) s f i ts)
 

@@ -100,7 +100,7 @@ fn narrowed_after<S: FrameStore>(tracks: &Tracks<S>, t: Ticks, end: &Option<Tick
 /// no tick, one of them has ended where another begins: no tick before that is buffered, and the
 /// next round looks from there on.
 pub(crate) fn first_span<S: FrameStore>(tracks: &Tracks<S>, ended: bool) -> Option<Span>
-    requires gaps { AllByRecursion (λ g. pos 0 ≤ℤ g) (gaps_of S.gap tracks.now.items) }
+    requires gaps_from_zero { AllByRecursion (λ g. pos 0 ≤ℤ g) (gaps_of S.gap tracks.now.items) }
     requires sound_and_countable { AreSoundAndCountable (states_of S.frames tracks.now.items) }
     ensures { result ≡ first_of
         (meet_of_all (with_common_end ended (ranges_in S.frames S.gap tracks.now.items))) }

@@ -80,7 +80,7 @@ fn add_one<S: FrameStore>(tracks: &mut Tracks<S>, alloc: Global, gap: Ticks, tra
     requires gap_from_zero { pos 0 ≤ℤ gap }
     ensures states { states_of S.frames tracks.new.items ≡ states_of S.frames tracks.old.items
         ++ map new_track (filter is_media_track (track.now ∷ [])) }
-    ensures places { tracks.old.spare
+    ensures places_taken { tracks.old.spare
         ≤ tracks.new.spare + length (filter is_media_track (track.now ∷ [])) }
     ensures gaps { AllByRecursion (λ g. g ≡ gap) (gaps_of S.gap tracks.old.items)
         → AllByRecursion (λ g. g ≡ gap) (gaps_of S.gap tracks.new.items) }
@@ -96,7 +96,7 @@ fn add_all<S: FrameStore>(tracks: &mut Tracks<S>, alloc: Global, gap: Ticks, new
     requires gap_from_zero { pos 0 ≤ℤ gap }
     ensures states { states_of S.frames tracks.new.items ≡ states_of S.frames tracks.old.items
         ++ map new_track (filter is_media_track news.now) }
-    ensures places { tracks.old.spare
+    ensures places_taken { tracks.old.spare
         ≤ tracks.new.spare + length (filter is_media_track news.now) }
     ensures gaps { AllByRecursion (λ g. g ≡ gap) (gaps_of S.gap tracks.old.items)
         → AllByRecursion (λ g. g ≡ gap) (gaps_of S.gap tracks.new.items) }

@@ -53,7 +53,7 @@ impl Ahead {
     pub(crate) fn least(self) -> usize
         ensures own { result ≤ self.own }
         ensures others { result ≤ self.others }
-        ensures one { result ≡ min self.own self.others }
+        ensures value { result ≡ min self.own self.others }
     {
         self.own.min(self.others)
     }

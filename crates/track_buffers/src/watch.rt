@@ -46,7 +46,7 @@ fn least_with(shared: &Option<Span>, n: usize, own: &Option<Span>) -> usize
 #[inline(never)]
 pub(crate) fn watch_of<S: FrameStore>(tracks: &Tracks<S>, t: Ticks) -> Watch
     requires some { 1 ≤ length tracks.now.items }
-    requires gaps { AllByRecursion (λ g. pos 0 ≤ℤ g) (gaps_of S.gap tracks.now.items) }
+    requires gaps_from_zero { AllByRecursion (λ g. pos 0 ≤ℤ g) (gaps_of S.gap tracks.now.items) }
     ensures { IsWatchOf result (ranges_in S.frames S.gap tracks.now.items) }
 {
     let mut span = own_span_at(tracks, 0, t);
@@ -143,7 +143,7 @@ pub(crate) fn watch_after<S: FrameStore>(
     old: &Option<Span>,
 ) -> Option<Watch>
     requires some { 1 ≤ length tracks.now.items }
-    requires gaps { AllByRecursion (λ g. pos 0 ≤ℤ g) (gaps_of S.gap tracks.now.items) }
+    requires gaps_from_zero { AllByRecursion (λ g. pos 0 ≤ℤ g) (gaps_of S.gap tracks.now.items) }
     ensures { (rs : List (List Span))
         → i < length (ranges_in S.frames S.gap tracks.now.items)
         → AllByRecursion IsNormalized rs
@@ -186,7 +186,7 @@ pub(crate) fn watched_span<S: FrameStore>(
     t: Ticks,
     ended: bool,
 ) -> Option<Span>
-    requires gaps { AllByRecursion (λ g. pos 0 ≤ℤ g) (gaps_of S.gap tracks.now.items) }
+    requires gaps_from_zero { AllByRecursion (λ g. pos 0 ≤ℤ g) (gaps_of S.gap tracks.now.items) }
     requires watch { IfSome watch.now
         (λ w. IsWatchOf w (ranges_in S.frames S.gap tracks.now.items)) }
     ensures { result ≡ find (reaches t)

@@ -10,13 +10,13 @@ pub room_grown : (a b c d a' b' c' d' : ℕ) → a ≤ a' → b ≤ b' → c ≤
 room_grown a b c d a' b' c' d' p q r s = omega arith
 
 -- each list has that much room
-pub record HaveRoom (n a b c d : ℕ) : Type 0 where
+pub record HasRoomForEach (n a b c d : ℕ) : Type 0 where
   pub items : n ≤ a
   pub order : n ≤ b
   pub syncs : n ≤ c
   pub ranges : n ≤ d
 
-pub room_each : (n a b c d : ℕ) → n ≤ index_room a b c d → HaveRoom n a b c d
+pub room_each : (n a b c d : ℕ) → n ≤ index_room a b c d → HasRoomForEach n a b c d
 room_each n a b c d h = record { items = omega arith; order = omega arith; syncs = omega arith; ranges = omega arith }
 
 pub room_all : (n a b c d : ℕ) → n ≤ a → n ≤ b → n ≤ c → n ≤ d → n ≤ index_room a b c d

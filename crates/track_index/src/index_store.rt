@@ -81,7 +81,7 @@ fn take_run_out(order: &mut Order, frames: &Frames, run: Stretch, total: u64) ->
     requires index { run.from.index < length (row frames.now.rows run.from.block) }
     requires within { rank frames.now.rows run.from + run.count ≤ length
         (row_items frames.now.rows) }
-    ensures order { row_items order.new.rows
+    ensures in_order { row_items order.new.rows
         ≡ presentation_order
         (take (rank frames.now.rows run.from) (row_items frames.now.rows)
         ++ drop (rank frames.now.rows run.from + run.count) (row_items frames.now.rows)) }
@@ -122,7 +122,7 @@ impl IndexStore {
     }
 
     /// The ranges of the frames (Media Source Extensions, "track buffer ranges").
-    pub fn kept_ranges(&self) -> &Ranges
+    pub fn kept(&self) -> &Ranges
         ensures spans { result.now.spans ≡ ranges_of self.now.gap self.now.frames }
         ensures bridged { IsBridging self.now.gap (intervals self.now.frames) result.now.spans }
     {

@@ -46,7 +46,8 @@ impl Model for Order {
 /// The place of the entry of a serial.
 fn place_of(list: &BlockList<OrderEntry, Known>, pts: Ticks, serial: u64) -> BlockPlace
     requires keyed { IsKeyed (row_items list.now.rows) }
-    requires own { AllByRecursion (λ o. o.serial ≡ serial → o.pts ≡ pts) (row_items list.now.rows) }
+    requires at_pts { AllByRecursion (λ o. o.serial ≡ serial → o.pts ≡ pts)
+        (row_items list.now.rows) }
     requires held { list_any (has_entry_serial serial) (row_items list.now.rows) ≡ true }
     ensures block { result.block < length list.now.rows }
     ensures index { result.index < length (row list.now.rows result.block) }
@@ -98,7 +99,7 @@ fn look(
     visits: &mut u64,
 ) -> Option<OrderEntry>
     requires block { b < length list.now.rows }
-    requires count { count ≤ length (row list.now.rows b) }
+    requires in_block { count ≤ length (row list.now.rows b) }
     ensures last { result ≡ last_that (is_in_entry t) (take count (row list.now.rows b)) }
     ensures not_less { visits.old ≤ visits.new }
     ensures at_most { visits.new ≤ visits.old + 128 }
@@ -241,7 +242,7 @@ impl Order {
     /// Takes out the entry of a serial, which begins at `pts`.
     pub(crate) fn take_out(&mut self, pts: Ticks, serial: u64)
         requires keyed { IsKeyed (row_items self.old.rows) }
-        requires own { AllByRecursion (λ o. o.serial ≡ serial → o.pts ≡ pts)
+        requires at_pts { AllByRecursion (λ o. o.serial ≡ serial → o.pts ≡ pts)
             (row_items self.old.rows) }
         requires held { list_any (has_entry_serial serial) (row_items self.old.rows) ≡ true }
         ensures items { row_items self.new.rows
@@ -256,7 +257,7 @@ impl Order {
     /// Gives the entry of a serial, which begins at `pts`, another duration.
     pub(crate) fn shorten(&mut self, pts: Ticks, serial: u64, dur: Ticks)
         requires keyed { IsKeyed (row_items self.old.rows) }
-        requires own { AllByRecursion (λ o. o.serial ≡ serial → o.pts ≡ pts)
+        requires at_pts { AllByRecursion (λ o. o.serial ≡ serial → o.pts ≡ pts)
             (row_items self.old.rows) }
         requires held { list_any (has_entry_serial serial) (row_items self.old.rows) ≡ true }
         ensures items { row_items self.new.rows

@@ -180,7 +180,7 @@ fn adds_and_removes_buffers(rt: HostRuntime) -> Result<(), Fail> {
     assert_eq!(rt; source.add_buffer()?, Added::Refused(Name::InvalidState));
     assert!(rt; source.reopen());
     assert_eq!(rt; source.add_buffer()?, Added::Number(16));
-    assert_eq!(rt; (source.made_count(), source.at(14)), (17, Some(16)));
+    assert_eq!(rt; (source.made(), source.at(14)), (17, Some(16)));
     Ok(())
 }
 

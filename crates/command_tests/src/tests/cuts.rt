@@ -7,7 +7,7 @@ use std::test::Fail;
 use track_index::IndexStore;
 
 /// A script is played to its end, and closes with this block.
-fn closes_with(alloc: Global, script: &str, block: &str) -> Result<bool, Fail> {
+fn is_closed_with(alloc: Global, script: &str, block: &str) -> Result<bool, Fail> {
     let (status, sink) = play_result::<IndexStore>(alloc, script)?;
     Ok(status == Status::Ok && sink.written().ends_with(block.as_bytes()))
 }
@@ -23,7 +23,7 @@ fn segments_are_cut(rt: HostRuntime) -> Result<(), Fail> {
         let script = format!(in alloc;
             "blobs = [\"file plain\"]\nsteps = [\"attach\", \"add video/mp4\", \"append 0 0 0 {at}\", \"drain\", \"append 0 0 {at} {rest}\", \"drain\", \"endofstream\", \"mode 0 sequence\", \"drain\"]\n"
         )?;
-        assert!(rt; closes_with(alloc, script.as_str(), block)?, "at {at}");
+        assert!(rt; is_closed_with(alloc, script.as_str(), block)?, "at {at}");
     }
     Ok(())
 }
@@ -39,7 +39,7 @@ fn adts_frames_are_cut(rt: HostRuntime) -> Result<(), Fail> {
         let script = format!(in alloc;
             "blobs = [\"hex fff15080015ffc000000fff15080015ffc000000\"]\nsteps = [\"attach\", \"add audio/aac\", \"append 0 0 0 {at}\", \"drain\", \"append 0 0 {at} {rest}\", \"drain\"]\n"
         )?;
-        assert!(rt; closes_with(alloc, script.as_str(), block)?, "at {at}");
+        assert!(rt; is_closed_with(alloc, script.as_str(), block)?, "at {at}");
     }
     Ok(())
 }
@@ -59,7 +59,7 @@ fn broken_appends_are_cut(rt: HostRuntime) -> Result<(), Fail> {
         let script = format!(in alloc;
             "blobs = [\"file plain\", \"hex fff15080015ffc000000fff15080015ffc00000000000000000000\"]\nsteps = [\"attach\", \"add video/mp4\", \"add audio/aac\", \"append 0 0\", \"drain\", \"append 1 1 0 {at}\", \"drain\", \"append 1 1 {at} {rest}\", \"drain\"]\n"
         )?;
-        assert!(rt; closes_with(alloc, script.as_str(), block)?, "at {at}");
+        assert!(rt; is_closed_with(alloc, script.as_str(), block)?, "at {at}");
     }
     Ok(())
 }
@@ -74,13 +74,13 @@ fn offset_between_parts_moves_the_second(rt: HostRuntime) -> Result<(), Fail> {
     let block = "error 0\nduration inf\n\
         buffer 0 phase waiting held 0 used 20 buffered [0,6553600000)\n\
         track 0 1 audio mp4a frames 2 ranges [0,6553600000)\n";
-    assert!(rt; closes_with(alloc, whole, block)?);
+    assert!(rt; is_closed_with(alloc, whole, block)?);
     let parts = "blobs = [\"hex fff15080015ffc000000fff15080015ffc000000\"]\n\
         steps = [\"attach\", \"add audio/aac\", \"append 0 0 0 10\", \"drain\", \
         \"offset 0 1/1\", \"append 0 0 10 10\", \"drain\"]\n";
     let block = "error 0\nduration inf\nbuffer 0 phase waiting held 0 used 20 \
         buffered [0,3276800000) [141120000000,144396800000)\n\
         track 0 1 audio mp4a frames 2 ranges [0,3276800000) [141120000000,144396800000)\n";
-    assert!(rt; closes_with(alloc, parts, block)?);
+    assert!(rt; is_closed_with(alloc, parts, block)?);
     Ok(())
 }

@@ -6,7 +6,7 @@ mod runs;
 mod scripts_from_m;
 mod scripts_to_l;
 
-use super::ran;
+use super::result_with_library;
 use super::text_library::TextLibrary;
 use files::FILES;
 use large_files::LARGE_FILES;
@@ -20,7 +20,7 @@ use std::test::Fail;
 use track_index::IndexStore;
 
 /// What is printed over all files and a script, and the status.
-fn tried(
+fn result_of_example(
     alloc: Global,
     words: &[&str],
     script: (&str, &str),
@@ -32,7 +32,7 @@ fn tried(
         tables: &tables,
         faults: 0,
     };
-    ran::<IndexStore, TextLibrary>(alloc, words, &mut library)
+    result_with_library::<IndexStore, TextLibrary>(alloc, words, &mut library)
 }
 
 #[test]
@@ -40,7 +40,7 @@ fn tries_files(rt: HostRuntime) -> Result<(), Fail> {
     let alloc = rt.alloc();
     for (line, wanted, text) in &RUNS {
         let words: Vec<&str> = line.split_whitespace().collect(alloc)?;
-        let (status, sink) = tried(alloc, words.as_slice(), ("", ""))?;
+        let (status, sink) = result_of_example(alloc, words.as_slice(), ("", ""))?;
         assert_eq!(rt; status, *wanted, "at {line}");
         assert_eq!(rt; sink.written(), text.as_bytes(), "at {line}");
     }
@@ -52,7 +52,7 @@ fn plays_scripts(rt: HostRuntime) -> Result<(), Fail> {
     let alloc = rt.alloc();
     for table in [SCRIPTS_TO_L.as_slice(), SCRIPTS_FROM_M.as_slice()] {
         for (name, script, text) in table {
-            let (status, sink) = tried(alloc, &["play", *name], (*name, *script))?;
+            let (status, sink) = result_of_example(alloc, &["play", *name], (*name, *script))?;
             assert_eq!(rt; status, Status::Ok, "at {name}");
             assert_eq!(rt; sink.written(), text.as_bytes(), "at {name}");
         }

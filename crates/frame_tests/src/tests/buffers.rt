@@ -86,7 +86,7 @@ fn receive(
 }
 
 /// Track buffers in mode "segments" that received an initialization segment.
-fn begun(rt: &(impl Abort + AllocGlobal), tracks: &[Told]) -> Result<Buffers, Fail> {
+fn buffers_with_tracks(rt: &(impl Abort + AllocGlobal), tracks: &[Told]) -> Result<Buffers, Fail> {
     let mut buffers = Buffers::new(rt.alloc(), Ticks::zero(), false);
     let want = MediaEffect::Done(init_effect(true));
     receive(rt, &mut buffers, tracks, Moment::Infinite, &want)?;
@@ -112,7 +112,7 @@ fn process_all(alloc: Global, buffers: &mut Buffers, samples: &[Sample]) -> Resu
 
 /// Track buffers of both kinds with a frame each.
 fn of_both_kinds(rt: &(impl Abort + AllocGlobal)) -> Result<Buffers, Fail> {
-    let mut buffers = begun(rt, &[VIDEO, AUDIO])?;
+    let mut buffers = buffers_with_tracks(rt, &[VIDEO, AUDIO])?;
     process_all(
         rt.alloc(),
         &mut buffers,
@@ -194,7 +194,7 @@ fn tells_other_tracks(rt: HostRuntime) -> Result<(), Fail> {
     let second = (2, Kind::Video, *b"hvc1");
     let others = [second, (3, Kind::Video, *b"avc1")];
     let exchanged = [(1, Kind::Video, *b"hvc1"), (2, Kind::Video, *b"avc1")];
-    let mut buffers = begun(&rt, &[VIDEO, second])?;
+    let mut buffers = buffers_with_tracks(&rt, &[VIDEO, second])?;
     receive(&rt, &mut buffers, &others, Moment::Infinite, &differ)?;
     receive(&rt, &mut buffers, &[VIDEO], Moment::Infinite, &differ)?;
     receive(
@@ -214,7 +214,7 @@ fn changes_codecs_where_it_may(rt: HostRuntime) -> Result<(), Fail> {
     let differ = MediaEffect::AppendError(MediaFault::TracksDiffer, nothing());
     let went = MediaEffect::Done(init_effect(false));
     let other = [(9, Kind::Video, *b"hvc1")];
-    let mut buffers = begun(&rt, &[VIDEO])?;
+    let mut buffers = buffers_with_tracks(&rt, &[VIDEO])?;
     receive(&rt, &mut buffers, &other, Moment::Infinite, &differ)?;
     buffers.change_container(false);
     receive(&rt, &mut buffers, &other, Moment::Infinite, &went)?;
@@ -318,7 +318,7 @@ fn flushes_frames(rt: HostRuntime) -> Result<(), Fail> {
         (1, 6000, 3000, false),
     ];
     let end = Ticks::new(14_112_000_000).ok_or("no time")?;
-    let mut buffers = begun(&rt, &[VIDEO])?;
+    let mut buffers = buffers_with_tracks(&rt, &[VIDEO])?;
     flush(&rt, &mut buffers, &samples, false, 3, end)?;
     assert_eq!(rt; buffers.used(), 12);
     assert_eq!(rt; buffers.highest_start(), Some(time(6000)?));
@@ -337,7 +337,7 @@ fn flushes_up_to_a_fault(rt: HostRuntime) -> Result<(), Fail> {
         (1, 3000, 3000, true),
         (1, 3000, 3000, false),
     ];
-    let mut buffers = begun(&rt, &[VIDEO])?;
+    let mut buffers = buffers_with_tracks(&rt, &[VIDEO])?;
     flush(&rt, &mut buffers, &samples, true, 1, time(3000)?)?;
     expect_tracks(&rt, &buffers, &[(1, *b"avc1", 1)], false)?;
     process(rt.alloc(), &mut buffers, &(5, 0, 3000, true))?;
@@ -347,7 +347,7 @@ fn flushes_up_to_a_fault(rt: HostRuntime) -> Result<(), Fail> {
 #[test]
 fn buffers_what_all_tracks_have(rt: HostRuntime) -> Result<(), Fail> {
     let alloc = rt.alloc();
-    let mut buffers = begun(&rt, &[VIDEO, AUDIO])?;
+    let mut buffers = buffers_with_tracks(&rt, &[VIDEO, AUDIO])?;
     expect_buffered(&rt, &buffers, true, &[])?;
     let samples = [
         (1, 0, 3000, true),
@@ -404,7 +404,7 @@ const RANGES_OF_TIMES: [(u32, bool, Option<(u32, u32)>); 8] = [
 /// ends. Where the source is ended, the last range of each track lasts to the highest end.
 #[test]
 fn finds_the_range_of_a_time(rt: HostRuntime) -> Result<(), Fail> {
-    let mut buffers = begun(&rt, &[VIDEO, AUDIO])?;
+    let mut buffers = buffers_with_tracks(&rt, &[VIDEO, AUDIO])?;
     expect_span(&rt, &buffers, 0, true, None)?;
     let samples = [
         (1, 0, 3000, true),
@@ -421,7 +421,7 @@ fn finds_the_range_of_a_time(rt: HostRuntime) -> Result<(), Fail> {
 #[test]
 fn evicts_frames(rt: HostRuntime) -> Result<(), Fail> {
     let alloc = rt.alloc();
-    let mut buffers = begun(&rt, &[VIDEO])?;
+    let mut buffers = buffers_with_tracks(&rt, &[VIDEO])?;
     process_all(
         alloc,
         &mut buffers,
@@ -511,7 +511,7 @@ fn expect_bounds(
 
 #[test]
 fn finds_the_bounds_of_one_track(rt: HostRuntime) -> Result<(), Fail> {
-    let mut buffers = begun(&rt, &[VIDEO])?;
+    let mut buffers = buffers_with_tracks(&rt, &[VIDEO])?;
     expect_bounds(&rt, &buffers, false, None, None)?;
     expect_bounds(&rt, &buffers, true, None, None)?;
     let samples = [
@@ -531,7 +531,7 @@ fn finds_the_bounds_of_one_track(rt: HostRuntime) -> Result<(), Fail> {
 /// is ended the last ones do.
 #[test]
 fn finds_the_bounds_behind_ranges_of_one_track(rt: HostRuntime) -> Result<(), Fail> {
-    let mut buffers = begun(&rt, &[VIDEO, AUDIO])?;
+    let mut buffers = buffers_with_tracks(&rt, &[VIDEO, AUDIO])?;
     let samples = [
         (1, 0, 3000, true),
         (1, 6000, 3000, true),
@@ -550,7 +550,7 @@ fn finds_the_bounds_behind_ranges_of_one_track(rt: HostRuntime) -> Result<(), Fa
 /// buffered, but at the end of an ended source.
 #[test]
 fn finds_no_bounds_where_nothing_is_shared(rt: HostRuntime) -> Result<(), Fail> {
-    let mut buffers = begun(&rt, &[VIDEO, AUDIO])?;
+    let mut buffers = buffers_with_tracks(&rt, &[VIDEO, AUDIO])?;
     let samples = [(1, 0, 3000, true), (1, 6000, 3000, true)];
     process_all(rt.alloc(), &mut buffers, &samples)?;
     expect_bounds(&rt, &buffers, false, None, None)?;
@@ -563,7 +563,7 @@ fn finds_no_bounds_where_nothing_is_shared(rt: HostRuntime) -> Result<(), Fail> 
 
 #[test]
 fn finds_the_bounds_of_three_tracks(rt: HostRuntime) -> Result<(), Fail> {
-    let mut buffers = begun(&rt, &[VIDEO, AUDIO, (3, Kind::Audio, *b"mp4a")])?;
+    let mut buffers = buffers_with_tracks(&rt, &[VIDEO, AUDIO, (3, Kind::Audio, *b"mp4a")])?;
     let samples = [
         (1, 0, 2000, true),
         (1, 4000, 2000, true),

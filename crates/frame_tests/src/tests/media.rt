@@ -102,7 +102,8 @@ pub(super) fn one_track<S: FrameStore>(
 ) -> Result<Tracks<S>, OutOfMemory>
     requires { received ≤ 2 ^ 62 }
     ensures one { IfOk result (λ ts. length ts.items ≡ 1) }
-    ensures sound_and_countable { IfOk result (λ ts. AreSoundAndCountable (states_of S.frames ts.items)) }
+    ensures sound_and_countable { IfOk result (λ ts.
+        AreSoundAndCountable (states_of S.frames ts.items)) }
 {
     let mut tracks = Tracks::new(alloc);
     tracks.reserve(1)?;

@@ -20,7 +20,8 @@ use track_store::{FrameStore, ListStore, Marks, Settings, Tracks};
 /// Two tracks with no frames.
 fn two_tracks<S: FrameStore>(alloc: Global) -> Result<Tracks<S>, OutOfMemory>
     ensures two { IfOk result (λ ts. length ts.items ≡ 2) }
-    ensures sound_and_countable { IfOk result (λ ts. AreSoundAndCountable (states_of S.frames ts.items)) }
+    ensures sound_and_countable { IfOk result (λ ts.
+        AreSoundAndCountable (states_of S.frames ts.items)) }
 {
     let mut tracks = Tracks::new(alloc);
     tracks.reserve(2)?;

@@ -138,11 +138,7 @@ fn truncated_frames(rt: HostRuntime) -> Result<(), Fail> {
         let mut stream = AdtsStream::new(rt.alloc());
         stream.feed(first)?;
         take_all(&mut stream, &mut items)?;
-        let found = (
-            stream.is_waiting(),
-            stream.held_len(),
-            stream.ready_frames(),
-        );
+        let found = (stream.waiting(), stream.held_len(), stream.ready_frames());
         assert!(rt;
             found == (cut % 10 < 7, cut % 10, 0),
             "{cut} bytes: {found:?}"

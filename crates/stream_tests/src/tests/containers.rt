@@ -133,7 +133,7 @@ fn decline(rt: &impl Abort, stream: &mut ByteStream, bytes: &[u8]) -> Result<(),
 }
 
 /// So many bytes that are told in hex.
-fn decoded(rt: &(impl Abort + AllocGlobal), text: &str, len: usize) -> Result<Vec<u8>, Fail> {
+fn bytes_of_hex(rt: &(impl Abort + AllocGlobal), text: &str, len: usize) -> Result<Vec<u8>, Fail> {
     let bytes = hex::decode(rt.alloc(), text)?;
     assert_eq!(rt; bytes.len(), len);
     Ok(bytes)
@@ -177,10 +177,10 @@ fn take(
 {
     match step {
         StreamCall::Feed(bytes) => append(rt, stream, bytes)?,
-        StreamCall::Hex(text, len) => append(rt, stream, decoded(rt, text, len)?.as_slice())?,
+        StreamCall::Hex(text, len) => append(rt, stream, bytes_of_hex(rt, text, len)?.as_slice())?,
         StreamCall::Share(bytes) => share(rt, stream, Bytes::copy_of(rt.alloc(), bytes)?)?,
         StreamCall::ShareHex(text, len) => {
-            let bytes = decoded(rt, text, len)?;
+            let bytes = bytes_of_hex(rt, text, len)?;
             share(rt, stream, Bytes::from_vec(rt.alloc(), bytes)?)?;
         }
         StreamCall::Decline(bytes) => decline(rt, stream, bytes)?,

@@ -18,4 +18,4 @@ latest_from-requires-clause-below g c =
 pub returns-in-Some : goal.returns-in-Some
 returns-in-Some g c =
     let ts = states_of g.S.FrameStore.frames c.args.tracks.now.items in
-    latest_between c.args.after c.args.next.now (times_at c.args.lead ts) c.in-Some.low c.latest_from.result (rising_at c.args.lead ts) (sym c.in-Some.ensures) c.latest_from.ensures.latest c.latest_from.ensures.later
+    latest_between c.args.after c.args.next.now (times_at c.args.lead ts) c.in-Some.low c.latest_from.result (rising_at c.args.lead ts) (sym c.in-Some.ensures) c.latest_from.ensures.latest c.latest_from.ensures.not_earlier

@@ -13,4 +13,4 @@ returns-in-Some g c =
 pub returns-in-None : goal.returns-in-None
 returns-in-None g c =
     let ts = states_of g.S.FrameStore.frames c.args.tracks.now.items in
-    none_past c.args.t (frames_of (slice_get ts c.args.lead)) c.highest_in_range-highest.result c.highest_in_range-highest.ensures.value c.highest_in_range-highest.ensures.is_tick (sym c.in-None.ensures.value) c.in-None.ensures.from
+    none_past c.args.t (frames_of (slice_get ts c.args.lead)) c.highest_in_range-highest.result c.highest_in_range-highest.ensures.value c.highest_in_range-highest.ensures.is_tick (sym c.in-None.ensures.value) c.in-None.ensures.is_tick

@@ -16,7 +16,7 @@ returns-then-is_full-clause-placement g c =
 
 pub place_below_limits-requires-clause-ready : goal.place_below_limits-requires-clause-ready
 place_below_limits-requires-clause-ready g c =
-    ready_sound g.S.FrameStore.frames g.S.FrameStore.spare c.args.tracks.now.items c.args.index (length c.args.frame.payload) c.requires.sound c.requires.spare (rw c.len.ensures at c.if-is_full.ensures)
+    ready_sound g.S.FrameStore.frames g.S.FrameStore.spare c.args.tracks.now.items c.args.index (length c.args.frame.payload) c.requires.sound c.requires.room (rw c.len.ensures at c.if-is_full.ensures)
 
 pub returns-clause-placement : goal.returns-clause-placement
 returns-clause-placement g c =

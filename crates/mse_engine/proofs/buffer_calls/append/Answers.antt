@@ -9,8 +9,8 @@ use Rattle.mse_engine.specs.Standing.{IsSteady, kept_engine}
 use Rattle.mse_engine.proofs.BufferStepping.{append_steps, no_bytes_steps, unmade_steps, call_steady, never_loads}
 use Rattle.mse_engine.proofs.buffer_calls.append.Goals as goal
 
-pub conclude-requires-clause-bounds : goal.conclude-requires-clause-bounds
-conclude-requires-clause-bounds g c = λ h. never_loads _ c.args.k c.in_ok-reply.reply (not (has_metadata c.reserve.new.self.state.player.level)) c.args.side.now.state c.in_ok-reply.ensures.no_init h
+pub conclude-requires-clause-ready_to_load : goal.conclude-requires-clause-ready_to_load
+conclude-requires-clause-ready_to_load g c = λ h. never_loads _ c.args.k c.in_ok-reply.reply (not (has_metadata c.reserve.new.self.state.player.level)) c.args.side.now.state c.in_ok-reply.ensures.no_init h
 
 pub returns-clause-answered : goal.returns-clause-answered
 returns-clause-answered g c st h =

@@ -8,8 +8,8 @@ use Rattle.mse_engine.specs.Standing.{IsSteady, kept_engine}
 use Rattle.mse_engine.proofs.BufferStepping.{call_steps, call_steady, never_loads}
 use Rattle.mse_engine.proofs.buffer_calls.set_window_end.Goals as goal
 
-pub conclude-requires-clause-bounds : goal.conclude-requires-clause-bounds
-conclude-requires-clause-bounds g c = λ h. never_loads _ c.args.k c.set_window_end-reply.result (not (has_metadata c.reserve.new.self.state.player.level)) c.args.side.now.state c.set_window_end-reply.ensures.no_init h
+pub conclude-requires-clause-ready_to_load : goal.conclude-requires-clause-ready_to_load
+conclude-requires-clause-ready_to_load g c = λ h. never_loads _ c.args.k c.set_window_end-reply.result (not (has_metadata c.reserve.new.self.state.player.level)) c.args.side.now.state c.set_window_end-reply.ensures.no_init h
 
 pub returns-clause-answered : goal.returns-clause-answered
 returns-clause-answered g c st h = call_steps c.args.k InvalidState (window_end_result c.args.t) (surroundings c.around-around.result) c.around-around.result.duration c.set_window_end-reply.result c.conclude.result c.args.side.now c.args.element.now.state c.reserve.new.self.state c.args.buffers.now.buffers c.set_window_end-reply.new.self.buffers (kept_engine c.conclude.new.side c.set_window_end-reply.new.self.buffers c.conclude.new.element.state) c.reserve.ensures.state c.around-around.ensures.surroundings c.around-around.ensures.duration c.set_window_end-reply.ensures.answered c.conclude.ensures.step st h

@@ -14,8 +14,8 @@ use Rattle.mse_engine.specs.Standing.{IsSteady, kept_engine, IsStep}
 use Rattle.mse_engine.proofs.BufferStepping.{call_steps, call_steady, never_loads, made_steps, refused_steps, not_finite}
 use Rattle.mse_engine.proofs.buffer_calls.set_window_start.Goals as goal
 
-pub conclude-requires-clause-bounds : goal.conclude-requires-clause-bounds
-conclude-requires-clause-bounds g c = λ h. never_loads _ c.args.k c.set_window_start-reply.result (not (has_metadata c.reserve.new.self.state.player.level)) c.args.side.now.state c.set_window_start-reply.ensures.no_init h
+pub conclude-requires-clause-ready_to_load : goal.conclude-requires-clause-ready_to_load
+conclude-requires-clause-ready_to_load g c = λ h. never_loads _ c.args.k c.set_window_start-reply.result (not (has_metadata c.reserve.new.self.state.player.level)) c.args.side.now.state c.set_window_start-reply.ensures.no_init h
 
 pub returns-clause-answered : goal.returns-clause-answered
 returns-clause-answered g c st h =

@@ -15,8 +15,8 @@ use Rattle.mse_engine.proofs.ElementEffects.{steady_still}
 use Rattle.mse_engine.proofs.Inside.{side_of, new_state, new_answer}
 use Rattle.mse_engine.proofs.source_calls.end_of_stream.Goals as goal
 
-pub tell_change-requires-clause-now : goal.tell_change-requires-clause-now
-tell_change-requires-clause-now g c d h = ap (λ (s : SourceState). s.duration) c.end-change.ensures.state ∙ (end_change c.args.kind c.all_buffers-all.result.highest_end c.side.inside.source).now d (sym c.end-change.ensures.answer ∙ h)
+pub tell_change-requires-clause-duration_told : goal.tell_change-requires-clause-duration_told
+tell_change-requires-clause-duration_told g c d h = ap (λ (s : SourceState). s.duration) c.end-change.ensures.state ∙ (end_change c.args.kind c.all_buffers-all.result.highest_end c.side.inside.source).now d (sym c.end-change.ensures.answer ∙ h)
 
 pub returns-clause-answered : goal.returns-clause-answered
 returns-clause-answered g c st h =

@@ -7,8 +7,8 @@ use Rattle.mse_engine.proofs.ElementEffects.{steady_still}
 use Rattle.mse_engine.proofs.Inside.{side_of, new_state, new_answer}
 use Rattle.mse_engine.proofs.source_calls.set_duration.Goals as goal
 
-pub tell_change-requires-clause-now : goal.tell_change-requires-clause-now
-tell_change-requires-clause-now g c d h = ap (λ (s : SourceState). s.duration) c.set_duration-change.ensures.state ∙ (set_duration_change c.args.duration c.all_buffers-all.result c.side.inside.source).now d (sym c.set_duration-change.ensures.answer ∙ h)
+pub tell_change-requires-clause-duration_told : goal.tell_change-requires-clause-duration_told
+tell_change-requires-clause-duration_told g c d h = ap (λ (s : SourceState). s.duration) c.set_duration-change.ensures.state ∙ (set_duration_change c.args.duration c.all_buffers-all.result c.side.inside.source).now d (sym c.set_duration-change.ensures.answer ∙ h)
 
 pub returns-clause-answered : goal.returns-clause-answered
 returns-clause-answered g c st h = duration_step c.args.duration c.all_buffers-all.result c.args.side.now (side_of c.set_duration-change.new.self c.side.inside.fault c.side.inside.quota c.side.inside.gap) c.args.buffers.now.buffers c.args.element.now.state c.reserve.new.self.state c.set_duration-change.result c.all_buffers-all.ensures c.reserve.ensures.state (new_answer c.side.inside.source c.side.inside.fault c.side.inside.quota c.side.inside.gap c.args.side.now c.side.view_is (λ s. (after_set_duration c.args.duration c.all_buffers-all.result s).answer) c.set_duration-change.result c.set_duration-change.ensures.answer) (new_state c.side.inside.source c.side.inside.fault c.side.inside.quota c.side.inside.gap c.args.side.now c.side.view_is (λ s. (after_set_duration c.args.duration c.all_buffers-all.result s).state) c.set_duration-change.new.self c.set_duration-change.ensures.state) c.tell_change.new.element.state c.settle.new.element.state st c.in_default.not-Refused c.tell_change.ensures.state (record { source = c.settle.ensures.source; element = c.settle.ensures.element }) h

@@ -6,8 +6,8 @@ use Rattle.mse_engine.specs.Standing.{view_of}
 use Rattle.mse_engine.proofs.Changing.{change_unheard}
 use Rattle.mse_engine.proofs.source_calls.tell_change.Goals as goal
 
-pub tell_duration-requires-clause-now : goal.tell_duration-requires-clause-now
-tell_duration-requires-clause-now g c = c.requires.now c.in-To.duration c.in-To.is
+pub tell_duration-requires-clause-duration_told : goal.tell_duration-requires-clause-duration_told
+tell_duration-requires-clause-duration_told g c = c.requires.duration_told c.in-To.duration c.in-To.is
 
 pub returns-in-To-clause-state : goal.returns-in-To-clause-state
 returns-in-To-clause-state g c = subst (λ (ch : Changed). c.tell_duration.new.element.state ≡ after_signals (view_of c.args.side.now c.args.buffers.now.buffers c.args.element.now.state) (change_signals ch) c.args.element.now.state) (sym c.in-To.is) c.tell_duration.ensures.state

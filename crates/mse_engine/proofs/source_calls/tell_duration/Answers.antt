@@ -17,4 +17,4 @@ returns-clause-state g c =
     let at = c.args.element.now.state.player.position in
     let told = c.change_duration.ensures.state ∙ ap (λ (s : Scene). after_element_change c.args.duration s c.args.element.now.state) c.scene-scene.ensures in
     let sought = ap (λ (o : Option Span). after_element_change c.args.duration (scene_with o at v) c.args.element.now.state) (c.seekable-seekable.ensures ∙ ap (λ (s : SourceSide). seekable_span s.state.duration s.state.live None None) c.side.view_is) in
-    told ∙ (sought ∙ fall_alike c.args.side.now.state.duration c.args.side.now.state.live (start_of_first (buffered_in v)) (last_end (buffered_in v)) (is_ended c.args.side.now.state.ready) (span_at at v) c.args.element.now.state c.args.duration c.requires.now)
+    told ∙ (sought ∙ fall_alike c.args.side.now.state.duration c.args.side.now.state.live (start_of_first (buffered_in v)) (last_end (buffered_in v)) (is_ended c.args.side.now.state.ready) (span_at at v) c.args.element.now.state c.args.duration c.requires.duration_told)

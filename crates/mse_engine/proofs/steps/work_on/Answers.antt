@@ -15,8 +15,8 @@ use Rattle.mse_engine.proofs.Finishing.{concluded}
 use Rattle.mse_engine.proofs.Working.{work_did}
 use Rattle.mse_engine.proofs.steps.work_on.Goals as goal
 
-pub finish-requires-clause-bounds : goal.finish-requires-clause-bounds
-finish-requires-clause-bounds g c loaded =
+pub finish-requires-clause-ready_to_load : goal.finish-requires-clause-ready_to_load
+finish-requires-clause-ready_to_load g c loaded =
     let leaves = subst (λ (x : Turned). IfDid x (λ reply. AreRangesAfterInit c.args.k c.args.buffers.now.buffers reply c.turn.new.self.buffers)) c.in-Did.is c.in_ok-reply.ensures.ranges in
     brought c.args.k c.in-Did.reply c.args.buffers.now.buffers c.turn.new.self.buffers c.args.side.now c.reserve.new.self.state c.find_bounds.new.bounds c.drop_stale_bounds.new.bounds leaves c.drop_stale_bounds.ensures c.in_ok-find_bounds.ensures loaded
 

@@ -6,7 +6,7 @@ use Rattle.segment_stream.proofs.ArmLaws.{dropped}
 use Rattle.segment_stream.proofs.arms.end_on.Goals as goal
 
 pub returns-clause-kept : goal.returns-clause-kept
-returns-clause-kept c = c.enter.ensures.kept c.args.last.now ∙ c.in_ok-next_state.ensures.same
+returns-clause-kept c = c.enter.ensures.kept c.args.last.now ∙ c.in_ok-next_state.ensures.kept
 
 pub returns-clause-total : goal.returns-clause-total
 returns-clause-total c =

@@ -6,7 +6,7 @@ use Rattle.segment_stream.proofs.ArmLaws.{dropped}
 use Rattle.segment_stream.proofs.arms.init_on.Goals as goal
 
 pub returns-clause-kept : goal.returns-clause-kept
-returns-clause-kept c = rw (← c.in_ok-copy.ensures) (c.enter.ensures.kept (Some c.in_ok-copy.field-0) ∙ c.in_ok-next_state.ensures.same)
+returns-clause-kept c = rw (← c.in_ok-copy.ensures) (c.enter.ensures.kept (Some c.in_ok-copy.field-0) ∙ c.in_ok-next_state.ensures.kept)
 
 pub returns-clause-total : goal.returns-clause-total
 returns-clause-total c =

@@ -29,13 +29,13 @@ returns-in-Fault-clause-kept c =
     let last = c.args.last.now in
     let s : WalkState = walk_state last r.position tables (drop r.from b) in
     let e = c.in_ok-pending_item.ensures.value ∙ ap (move_of_pending s) c.in-Fault.is in
-    let q = front-item last r.position.mode r.position.offset r.from r.first r.ready r.want r.position.failed tables b (pending.Fault c.in-Fault.fault c.in-Fault.at) c.requires.waits.front (omega arith) e in
+    let q = front-item last r.position.mode r.position.offset r.from r.first r.ready r.want r.position.failed tables b (pending.Fault c.in-Fault.fault c.in-Fault.at) c.requires.at_front.front (omega arith) e in
     rw c.fail_on.ensures.progress (kept-failed last r.position.mode r.position.offset r.first r.ready 0 tables _ (bytes-gone c.args.input.now _ c.fail_on.ensures.input) (omega arith) ∙ sym q.1)
 
-pub returns-in-Fault-clause-waits : goal.returns-in-Fault-clause-waits
-returns-in-Fault-clause-waits c =
+pub returns-in-Fault-clause-at_front : goal.returns-in-Fault-clause-at_front
+returns-in-Fault-clause-at_front c =
     let r = c.args.progress.now in
-    rw c.fail_on.ensures.progress (rest-failed c.args.last.now r.position.mode r.position.offset r.first r.ready _ c.args.tables.now _ (bytes-gone c.args.input.now _ c.fail_on.ensures.input) (omega arith) (omega (arith, c.requires.waits.consistent.small)) c.requires.waits.consistent.counts)
+    rw c.fail_on.ensures.progress (rest-failed c.args.last.now r.position.mode r.position.offset r.first r.ready _ c.args.tables.now _ (bytes-gone c.args.input.now _ c.fail_on.ensures.input) (omega arith) (omega (arith, c.requires.at_front.consistent.small)) c.requires.at_front.consistent.counts)
 
 pub returns-in-Fault-clause-emptied : goal.returns-in-Fault-clause-emptied
 returns-in-Fault-clause-emptied c = λ e. (bytes-gone c.args.input.now _ c.fail_on.ensures.input, omega (arith, ap (λ (r : Progress). r.ready) c.fail_on.ensures.progress))

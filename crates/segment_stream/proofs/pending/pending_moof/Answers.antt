@@ -15,4 +15,4 @@ copy-requires c =
 pub returns-in-Ok-clause-value : goal.returns-in-Ok-clause-value
 returns-in-Ok-clause-value c =
     let r = c.args.progress.now in
-    absurd (plan-stuck c.args.last.now c.in-Some.with r.position.mode r.position.offset r.want (drop r.from (concat c.args.input.now)) r.position.failed c.args.tables.now c.args.len c.in-Ok.field-0.slots c.in-Some.is c.requires.unfailed c.requires.active c.requires.waits.rests c.requires.step (ap (λ n. plan_of c.in-Some.with.tracks (take c.args.len (drop n (concat c.args.input.now)))) c.requires.waits.front ∙ ap (plan_of c.in-Some.with.tracks) (sym (c.as_slice.ensures ∙ c.in_ok-moof.ensures)) ∙ c.in-Ok.ensures.value))
+    absurd (plan-stuck c.args.last.now c.in-Some.with r.position.mode r.position.offset r.want (drop r.from (concat c.args.input.now)) r.position.failed c.args.tables.now c.args.len c.in-Ok.field-0.slots c.in-Some.is c.requires.unfailed c.requires.active c.requires.at_front.rests c.requires.step (ap (λ n. plan_of c.in-Some.with.tracks (take c.args.len (drop n (concat c.args.input.now)))) c.requires.at_front.front ∙ ap (plan_of c.in-Some.with.tracks) (sym (c.as_slice.ensures ∙ c.in_ok-moof.ensures)) ∙ c.in-Ok.ensures.value))

@@ -20,7 +20,7 @@ pub returns-then-lt : goal.returns-then-lt
 returns-then-lt g c =
     let qs = ranges_in {S = g.row.S.Denot} g.S.FrameStore.frames g.S.FrameStore.gap c.args.tracks.now.items in
     let rs = map (with_end c.common_end-end.result) qs in
-    let all = grown_all c.common_end-end.result qs (ranges_all g.S.FrameStore.frames g.S.FrameStore.gap c.args.tracks.now.items c.requires.gaps) in
+    let all = grown_all c.common_end-end.result qs (ranges_all g.S.FrameStore.frames g.S.FrameStore.gap c.args.tracks.now.items c.requires.gaps_from_zero) in
     let span = c.in-Some.span in
     let found = first_round c.loop-span.t rs c.narrowed_after.result (Some span) all c.narrowed_after.ensures c.in-Some.is in
     let some : span.start <ℤ span.end = grind (arith, ints, c.lt.ensures, c.if-lt.true) in
@@ -31,7 +31,7 @@ pub loop-span-smaller : goal.loop-span-smaller
 loop-span-smaller g c =
     let qs = ranges_in {S = g.row.S.Denot} g.S.FrameStore.frames g.S.FrameStore.gap c.args.tracks.now.items in
     let rs = map (with_end c.common_end-end.result) qs in
-    let all = grown_all c.common_end-end.result qs (ranges_all g.S.FrameStore.frames g.S.FrameStore.gap c.args.tracks.now.items c.requires.gaps) in
+    let all = grown_all c.common_end-end.result qs (ranges_all g.S.FrameStore.frames g.S.FrameStore.gap c.args.tracks.now.items c.requires.gaps_from_zero) in
     let span = c.in-Some.span in
     let found = first_round c.loop-span.t rs c.narrowed_after.result (Some span) all c.narrowed_after.ensures c.in-Some.is in
     let past : span.end ≤ℤ span.start = grind (arith, ints, c.lt.ensures, c.if-lt.false) in
@@ -43,7 +43,7 @@ pub loop-span-preserved : goal.loop-span-preserved
 loop-span-preserved g c =
     let qs = ranges_in {S = g.row.S.Denot} g.S.FrameStore.frames g.S.FrameStore.gap c.args.tracks.now.items in
     let rs = map (with_end c.common_end-end.result) qs in
-    let all = grown_all c.common_end-end.result qs (ranges_all g.S.FrameStore.frames g.S.FrameStore.gap c.args.tracks.now.items c.requires.gaps) in
+    let all = grown_all c.common_end-end.result qs (ranges_all g.S.FrameStore.frames g.S.FrameStore.gap c.args.tracks.now.items c.requires.gaps_from_zero) in
     let span = c.in-Some.span in
     let found = first_round c.loop-span.t rs c.narrowed_after.result (Some span) all c.narrowed_after.ensures c.in-Some.is in
     none_before_it c.loop-span.t span (meet_of_all rs) c.loop-span.invariant found
@@ -52,7 +52,7 @@ pub returns : goal.returns
 returns g c =
     let qs = ranges_in {S = g.row.S.Denot} g.S.FrameStore.frames g.S.FrameStore.gap c.args.tracks.now.items in
     let rs = map (with_end c.common_end-end.result) qs in
-    let all = grown_all c.common_end-end.result qs (ranges_all g.S.FrameStore.frames g.S.FrameStore.gap c.args.tracks.now.items c.requires.gaps) in
+    let all = grown_all c.common_end-end.result qs (ranges_all g.S.FrameStore.frames g.S.FrameStore.gap c.args.tracks.now.items c.requires.gaps_from_zero) in
     let none = first_round c.loop-span.t rs c.narrowed_after.result None all c.narrowed_after.ensures c.in_default.is in
     first_none c.loop-span.t (meet_of_all rs) (all_normalized rs all) c.loop-span.invariant none
     ∙ ap (λ (xs : List (List Span)). first_of (meet_of_all xs)) c.common_end-end.ensures

@@ -13,7 +13,7 @@ loop-track-preserved g c =
     let i = c.loop-track.track-index in
     record {
       states = made_more (states_of F c.args.tracks.now.items) (states_of F c.loop-track.tracks.items) (states_of F c.add_one.new.tracks.items) us i c.track-item.result c.loop-track-test.true c.track-item.is c.loop-track.invariant.states c.add_one.ensures.states;
-      room = places_left us i c.track-item.result c.loop-track.tracks.spare c.add_one.new.tracks.spare c.loop-track-test.true c.track-item.is c.loop-track.invariant.room c.add_one.ensures.places;
-      places = places_taken us i c.track-item.result c.args.tracks.now.spare c.loop-track.tracks.spare c.add_one.new.tracks.spare c.loop-track-test.true c.track-item.is c.loop-track.invariant.places c.add_one.ensures.places;
+      room = places_left us i c.track-item.result c.loop-track.tracks.spare c.add_one.new.tracks.spare c.loop-track-test.true c.track-item.is c.loop-track.invariant.room c.add_one.ensures.places_taken;
+      places = places_taken us i c.track-item.result c.args.tracks.now.spare c.loop-track.tracks.spare c.add_one.new.tracks.spare c.loop-track-test.true c.track-item.is c.loop-track.invariant.places c.add_one.ensures.places_taken;
       gaps = λ h. c.add_one.ensures.gaps (c.loop-track.invariant.gaps h);
     }

@@ -28,7 +28,7 @@ loop-i-preserved g c =
     let here : c.loop-i.i < length rs = omega (arith, c.len-i-end.ensures, c.loop-i-test.true) in
     let front : 1 ≤ length (take c.loop-i.i rs) = rw length-take (omega (arith, c.loop-i.invariant.some)) in
     record {
-      shared = held_more c.args.t rs c.loop-i.i c.loop-i.span c.own_span_at-own.result c.overlap_of_two-span.result here front (ranges_all F G ts c.requires.gaps) c.loop-i.invariant.shared c.own_span_at-own.ensures c.overlap_of_two-span.ensures;
+      shared = held_more c.args.t rs c.loop-i.i c.loop-i.span c.own_span_at-own.result c.overlap_of_two-span.result here front (ranges_all F G ts c.requires.gaps_from_zero) c.loop-i.invariant.shared c.own_span_at-own.ensures c.overlap_of_two-span.ensures;
       least = least_more c.args.t rs c.loop-i.i c.loop-i.least c.least_with-least.result c.loop-i.span c.own_span_at-own.result c.overlap_of_two-span.result here c.loop-i.invariant.least c.own_span_at-own.ensures c.overlap_of_two-span.ensures c.least_with-least.ensures;
       some = omega arith;
     }

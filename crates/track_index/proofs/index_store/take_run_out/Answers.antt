@@ -47,7 +47,7 @@ take_out-requires c =
     let o = c.loop-n.invariant.order ∙ ap presentation_order e in
     record {
       keyed = subst IsKeyed (sym o) (keyed_ordered (take i fs ++ x ∷ ys) u);
-      own = subst (λ os. AllByRecursion (λ p. p.serial ≡ x.serial → p.pts ≡ x.frame.pts) os) (sym o) (own_pts (take i fs) x ys u);
+      at_pts = subst (λ os. AllByRecursion (λ p. p.serial ≡ x.serial → p.pts ≡ x.frame.pts) os) (sym o) (own_pts (take i fs) x ys u);
       held = ap (list_any (has_entry_serial x.serial)) o ∙ held_mid (take i fs) x ys;
     }
 
@@ -96,7 +96,7 @@ returns c =
     let fs = row_items c.args.frames.now.rows in
     let i = rank c.args.frames.now.rows c.args.run.from in
     record {
-      order = c.loop-n.invariant.order ∙ ap (λ (k : ℕ). presentation_order (take i fs ++ drop (i + k) fs)) z;
+      in_order = c.loop-n.invariant.order ∙ ap (λ (k : ℕ). presentation_order (take i fs ++ drop (i + k) fs)) z;
       bytes = c.loop-n.invariant.bytes ∙ ap (λ (k : ℕ). bytes_of (take i fs ++ drop (i + k) fs)) z;
       no_room_lost = c.loop-n.invariant.spare;
     }

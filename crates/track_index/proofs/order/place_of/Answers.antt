@@ -19,7 +19,7 @@ names_of c =
     let k = rank c.args.list.now.rows c.search-place.result in
     let before = subst (λ (m : ℤ). AllByRecursion (λ o. is_before_key (record { mark = m; serial = c.args.serial }) o ≡ true) (take k os)) c.at.ensures c.search-place.ensures.before in
     let after = subst (λ (m : ℤ). AllByRecursion (λ o. is_before_key (record { mark = m; serial = c.args.serial }) o ≡ false) (drop k os)) c.at.ensures c.search-place.ensures.after in
-    subst (IsNamedAt c.args.serial os) (sym c.at_item.ensures.rank) (names_at c.args.pts c.args.serial os k c.requires.keyed c.requires.own c.requires.held before after)
+    subst (IsNamedAt c.args.serial os) (sym c.at_item.ensures.rank) (names_at c.args.pts c.args.serial os k c.requires.keyed c.requires.at_pts c.requires.held before after)
 
 pub returns-clause-names : goal.returns-clause-names
 returns-clause-names c = names_of c

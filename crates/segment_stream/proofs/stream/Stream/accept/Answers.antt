@@ -13,7 +13,7 @@ invariant_of-self c =
     let new = c.accept_on-self-inside.new.input in
     let q = c.accept_on-self-inside.ensures in
     let h : IsStreamWithOffer (snapshot s.last s.progress tables s.input) s.input s.fed o = subst (λ (x : Option Offered). IsSegmentStream (snapshot s.last s.progress tables s.input) s.input s.fed x) c.in-Some.is c.self.invariant in
-    accept-holds s.last s.progress c.accept_on-self-inside.result tables s.input new s.fed o h (q.waits s.last tables h.found.consistent h.found.rests) q.position q.ready q.pieces
+    accept-holds s.last s.progress c.accept_on-self-inside.result tables s.input new s.fed o h (q.at_front s.last tables h.found.consistent h.found.rests) q.position q.ready q.pieces
 
 pub returns-clause-stands : goal.returns-clause-stands
 returns-clause-stands c =
@@ -35,4 +35,4 @@ returns-clause-pieces c =
     let q = c.accept_on-self-inside.ensures in
     let h : IsStreamWithOffer (snapshot s.last s.progress tables s.input) s.input s.fed o = subst (λ (x : Option Offered). IsSegmentStream (snapshot s.last s.progress tables s.input) s.input s.fed x) c.in-Some.is c.self.invariant in
     let e = ap (λ (x : Option Offered). segment_view (snapshot s.last s.progress tables s.input) s.input s.fed x) (sym c.in-Some.is) ∙ c.self.view_is in
-    accept-pieces s.last s.progress tables s.input new s.fed c.accept_on-self-inside.result.from o c.args.self.now e h (q.waits s.last tables h.found.consistent h.found.rests).front q.pieces
+    accept-pieces s.last s.progress tables s.input new s.fed c.accept_on-self-inside.result.from o c.args.self.now e h (q.at_front s.last tables h.found.consistent h.found.rests).front q.pieces

@@ -14,7 +14,7 @@ invariant_of-self c =
     let h = idle s.last s.progress tables s.input s.fed s.offered c.args.self.now c.self.view_is c.requires c.self.invariant in
     let new = c.next_on.new in
     let q = c.next_on.ensures in
-    let p : IsStreamAtRest (snapshot new.last new.progress new.tables new.input) new.input s.fed = next-holds c.next_on.result s.last new.last s.progress new.progress tables new.tables s.input new.input s.fed h.0 q.waits q.emptied q.readable q.total q.pieces q.err_last q.err_progress q.err_tables q.err_input in
+    let p : IsStreamAtRest (snapshot new.last new.progress new.tables new.input) new.input s.fed = next-holds c.next_on.result s.last new.last s.progress new.progress tables new.tables s.input new.input s.fed h.0 q.at_front q.emptied q.readable q.total q.pieces q.err_last q.err_progress q.err_tables q.err_input in
     subst (λ (o : Option Offered). IsSegmentStream (snapshot new.last new.progress new.tables new.input) new.input s.fed o) (sym h.2) p
 
 pub returns-clause-item : goal.returns-clause-item
@@ -43,5 +43,5 @@ returns-clause-dry c =
     let h = idle s.last s.progress tables s.input s.fed s.offered c.args.self.now c.self.view_is c.requires c.self.invariant in
     let new = c.next_on.new in
     let q = c.next_on.ensures in
-    let p = next-dry c.next_on.result s.last new.last s.progress new.progress tables new.tables s.input new.input s.fed c.args.self.now h.0 h.1 q.item q.kept q.waits q.pieces in
+    let p = next-dry c.next_on.result s.last new.last s.progress new.progress tables new.tables s.input new.input s.fed c.args.self.now h.0 h.1 q.item q.kept q.at_front q.pieces in
     subst (λ (o : Option Offered). IfOk c.next_on.result (λ next. answer_item next ≡ None → segment_view (snapshot new.last new.progress new.tables new.input) new.input s.fed o ≡ c.args.self.now)) (sym h.2) p

@@ -8,7 +8,7 @@ invariant_of-self-2 c =
     let s = c.self.inside in
     let h = idle s.last s.progress s.tables s.input s.fed s.offered c.args.self.now c.self.view_is c.requires.none_offered c.self.invariant in
     let q = c.in_ok-progress.ensures in
-    offer-holds s.last s.progress c.in_ok-progress.progress s.tables _ s.input _ c.args.bytes s.fed _ (omega arith) q.back q.pieces h.0 q.waits q.found q.emptied (omega (arith, c.requires.countable, ap (λ (v : SegmentView). v.fed) h.1))
+    offer-holds s.last s.progress c.in_ok-progress.progress s.tables _ s.input _ c.args.bytes s.fed _ (omega arith) q.back q.pieces h.0 q.at_front q.found q.emptied (omega (arith, c.requires.countable, ap (λ (v : SegmentView). v.fed) h.1))
 
 pub returns-clause-ok : goal.returns-clause-ok
 returns-clause-ok c =

@@ -25,8 +25,8 @@ watch_after-self-inside-requires-clause-some g c =
     let long = same_length g.S.FrameStore.gap c.self.inside.tracks.items c.process_at-effect.new.tracks.items c.process_at-effect.ensures.gaps in
     omega (arith, long, c.in-Some.ensures.in_range)
 
-pub watch_after-self-inside-requires-clause-gaps : goal.watch_after-self-inside-requires-clause-gaps
-watch_after-self-inside-requires-clause-gaps g c =
+pub watch_after-self-inside-requires-clause-gaps_from_zero : goal.watch_after-self-inside-requires-clause-gaps_from_zero
+watch_after-self-inside-requires-clause-gaps_from_zero g c =
     let G = g.S.FrameStore.gap in
     let b = c.self.inside in
     let us = c.process_at-effect.new.tracks.items in

@@ -48,7 +48,7 @@ mend_run-requires c =
     let k = rank_within rows c.run_from-run.result.last c.run_from-run.ensures.block c.run_from-run.ensures.index in
     let l : i + n ≤ length fs = omega (arith, c.run_from-run.ensures.count, k) in
     let gs = take i fs ++ drop (i + n) fs in
-    let e = c.take_run_out-bytes_left.ensures.order in
+    let e = c.take_run_out-bytes_left.ensures.in_order in
     let os = row_items c.take_run_out-bytes_left.new.order.rows in
     record {
       gap_from_zero = h.gap_from_zero;
@@ -97,7 +97,7 @@ invariant_of-self c =
     let z : start rows c.run_from-run.result.last.block + (c.run_from-run.result.last.index + 1) ≡ i + n = omega (arith, c.run_from-run.ensures.count) in
     let left = c.remove_range.ensures.items ∙ ap (λ (m : ℕ). take i fs ++ drop m fs) z in
     let gone = serial_gone c.args.serial fs i (i + n) h.kept.ascending held c.place_below-from.ensures.before c.place_below-from.ensures.after c.run_from-run.ensures.rest in
-    indexed_removed (has_serial c.args.serial) fs (row_items c.remove_range.new.self.rows) _ _ c.self.inside.gap _ _ h c.mend_run.ensures.room (omega (arith, ap length left, length_without fs i n l)) (left ∙ sym gone) refl (c.take_run_out-bytes_left.ensures.order ∙ ap presentation_order (sym left)) c.mend_run.ensures.spans (c.take_run_out-bytes_left.ensures.bytes ∙ ap bytes_of (sym left))
+    indexed_removed (has_serial c.args.serial) fs (row_items c.remove_range.new.self.rows) _ _ c.self.inside.gap _ _ h c.mend_run.ensures.room (omega (arith, ap length left, length_without fs i n l)) (left ∙ sym gone) refl (c.take_run_out-bytes_left.ensures.in_order ∙ ap presentation_order (sym left)) c.mend_run.ensures.spans (c.take_run_out-bytes_left.ensures.bytes ∙ ap bytes_of (sym left))
 
 pub returns-clause-frames : goal.returns-clause-frames
 returns-clause-frames c =

@@ -30,8 +30,8 @@ end_at-requires c =
 pub shorten-requires-clause-keyed : goal.shorten-requires-clause-keyed
 shorten-requires-clause-keyed c = keyed_of (row_items c.self.inside.order.rows) (row_items c.self.inside.items.rows) c.self.invariant.in_order c.self.invariant.kept.ascending
 
-pub shorten-requires-clause-own : goal.shorten-requires-clause-own
-shorten-requires-clause-own c =
+pub shorten-requires-clause-at_pts : goal.shorten-requires-clause-at_pts
+shorten-requires-clause-at_pts c =
     let fs = row_items c.self.inside.items.rows in
     let x = c.item.result.now in
     let within : c.args.i < length fs = rw (← c.self.view_is) at c.requires.in_range in

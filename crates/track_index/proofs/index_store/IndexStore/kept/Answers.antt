@@ -4,7 +4,7 @@ use Rattle.mse_base.specs.declared.span.Span.{Span}
 use Rattle.mse_base.proofs.Extended.{bridged_law}
 use Rattle.mse_base.specs.Rows.{row_items}
 use Rattle.track_store.specs.Frames.{intervals}
-use Rattle.track_index.proofs.index_store.IndexStore.kept_ranges.Goals as goal
+use Rattle.track_index.proofs.index_store.IndexStore.kept.Goals as goal
 
 pub returns-clause-bridged : goal.returns-clause-bridged
 returns-clause-bridged c =

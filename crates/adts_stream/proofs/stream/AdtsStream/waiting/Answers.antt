@@ -2,7 +2,7 @@ use Rattle.std.proofs.Common.{ap}
 use Rattle.std.specs.List.{concat}
 use Rattle.adts_stream.specs.Streams.{AdtsView}
 use Rattle.adts_stream.proofs.StreamLaws.{idle, waits, waits-kept}
-use Rattle.adts_stream.proofs.stream.AdtsStream.is_waiting.Goals as goal
+use Rattle.adts_stream.proofs.stream.AdtsStream.waiting.Goals as goal
 
 pub returns-clause-value : goal.returns-clause-value
 returns-clause-value c =
