@@ -3,6 +3,7 @@ use Rattle.std.proofs.Common.{◌≡◌, ◌∙◌, ℕ, zero, suc, ℤ, pos, ne
 use Rattle.std.specs.List.{AllByRecursion}
 use Rattle.std.proofs.lemmas.Int.{ints}
 use Rattle.mse_base.specs.declared.span.Span.{Span}
+use Rattle.mse_base.proofs.Neighbours.{near_gap, gap_near}
 use Rattle.mse_base.specs.Spans.{has_tick, has_tick_in, IsFirstStartAfter, IsNormalized, IsBridged, IsBridging}
 use Rattle.mse_base.specs.Bridging.{bridged_ranges, is_near, is_near_any, IsRanges, is_empty}
 use Rattle.mse_base.proofs.Unique.{unique}
@@ -183,9 +184,9 @@ near_from gap u from given e l k =
 between : (u m : ℤ) → (u ≤ℤ m) ⊎ (m <ℤ u)
 between u m = grind (arith, ints)
 
-near_between : (gap u : ℤ) (given : List Span) (t : ℤ) (b : IsBridged gap given t) → b.from ≤ℤ u → u ≤ℤ (b.to +ℤ gap) → is_near_any gap u given ≡ true
-near_between gap u given t b l k =
-    let near = b.near in
+near_between : (gap u : ℤ) (given : List Span) (t : ℤ) (b : IsBridged gap given t) → pos 0 ≤ℤ gap → b.from ≤ℤ u → u ≤ℤ (b.to +ℤ gap) → is_near_any gap u given ≡ true
+near_between gap u given t b g l k =
+    let near = near_gap gap b.from b.to g b.near in
     elim (between u (b.from +ℤ gap)) as (λ _. is_near_any gap u given ≡ true) [
       | inl low ↦ near_from gap u b.from given b.has_from l low
       | inr high ↦ near_from gap u b.to given b.has_to (omega (arith, ints)) k
@@ -198,16 +199,16 @@ true_false false e f = cc
 -- the range that holds one tick of a bridge holds the other
 pub no_less : (gap : ℤ) (given rs : List Span) (t : ℤ) → pos 0 ≤ℤ gap → IsRanges gap rs → ((u : ℤ) → is_near_any gap u rs ≡ is_near_any gap u given) → IsBridged gap given t → has_tick_in rs t ≡ true
 no_less gap given rs t g h same b =
-    let near = b.near in
+    let near = near_gap gap b.from b.to g b.near in
     let above = b.above in
     let below = b.below in
-    let at : is_near_any gap b.from rs ≡ true = same b.from ∙ near_between gap b.from given t b (omega (arith, ints)) (omega (arith, ints)) in
+    let at : is_near_any gap b.from rs ≡ true = same b.from ∙ near_between gap b.from given t b g (omega (arith, ints)) (omega (arith, ints)) in
     let r = near_holder gap b.from rs at in
     let p = near_parts gap b.from r.0 r.2 in
     let p1 = p.1 in
     let p2 = p.2 in
     elim (between r.0.end b.to) as (λ _. has_tick_in rs t ≡ true) [
-      | inl short ↦ absurd (true_false _ (same (r.0.end +ℤ gap) ∙ near_between gap (r.0.end +ℤ gap) given t b (omega (arith, ints)) (omega (arith, ints))) (end_open gap rs r.0 g h r.1))
+      | inl short ↦ absurd (true_false _ (same (r.0.end +ℤ gap) ∙ near_between gap (r.0.end +ℤ gap) given t b g (omega (arith, ints)) (omega (arith, ints))) (end_open gap rs r.0 g h r.1))
       | inr long ↦ cover_by t rs r.0 r.1 (within_is t r.0 (omega (arith, ints)) (omega (arith, ints)))
     ]
 
@@ -324,7 +325,7 @@ of_pos (pos k) h = (k, refl)
 of_pos (negsuc k) h = absurd (omega (arith, ints))
 
 both_ends : (g : ℕ) (t : ℤ) (given : List Span) (b : HasLastTickBetween given (t -ℤ pos g) t) → HasTickBetween given t (b.at +ℤ pos g +ℤ pos 1) → IsBridged (pos g) given t
-both_ends g t given b n = record { from = b.at; to = n.at; has_from = b.has; has_to = n.has; above = b.below; below = n.above; near = n.below }
+both_ends g t given b n = record { from = b.at; to = n.at; has_from = b.has; has_to = n.has; above = b.below; below = n.above; near = gap_near (pos g) b.at n.at n.below }
 
 gap_left : (g : ℕ) (t at : ℤ) → (t -ℤ pos g) ≤ℤ at → at ≤ℤ t → (k : ℕ) × ((t +ℤ pos k) ≡ (at +ℤ pos g +ℤ pos 1))
 gap_left g t at a b =

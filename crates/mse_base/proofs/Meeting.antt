@@ -6,7 +6,7 @@ use Rattle.std.proofs.lemmas.Int.{ints}
 use Rattle.std.proofs.lemmas.List.Sums.{fold-append}
 use Rattle.mse_base.specs.declared.span.Span.{Span}
 use Rattle.mse_base.specs.Spans.{has_tick, has_tick_in, IsFirstStartAfter, IsNormalized, IsIntersection}
-use Rattle.mse_base.specs.Meets.{overlap, meet, meet_of_all}
+use Rattle.mse_base.specs.Meets.{has_shared_tick, overlap, meet, meet_of_all}
 use Rattle.mse_base.proofs.Sets.{covers-append}
 use Rattle.mse_base.proofs.Neighbours.{one_met}
 
@@ -37,9 +37,6 @@ normalized-append e (x ∷ xs) ys n m ends starts = (n.0, starts_append x.end xs
 
 abbrev both : Span → Span → Span
 both x y = record { start = int_max x.start y.start; end = int_min x.end y.end }
-
-abbrev have_shared_tick : Span → Span → Bool
-have_shared_tick x y = int_lt (int_max x.start y.start) (int_min x.end y.end)
 
 covers-overlap : (x y : Span) (t : ℤ) → has_tick_in (overlap x y) t ≡ (has_tick x t && has_tick y t)
 covers-overlap x y t = grind (arith, ints)
@@ -110,21 +107,21 @@ all-append P (x ∷ xs) ys h k = (h.0, all-append P xs ys h.1 k)
 
 parts_ends : (x : Span) (ys : List Span) → AllByRecursion (λ s. s.end ≤ℤ x.end) (parts x ys)
 parts_ends x [] = tt
-parts_ends x (y ∷ ys) = all-append (λ s. s.end ≤ℤ x.end) (overlap x y) (parts x ys) (overlap_ends x y x.end (have_shared_tick x y) (lesser_left x.end y.end)) (parts_ends x ys)
+parts_ends x (y ∷ ys) = all-append (λ s. s.end ≤ℤ x.end) (overlap x y) (parts x ys) (overlap_ends x y x.end (has_shared_tick x y) (lesser_left x.end y.end)) (parts_ends x ys)
 
 parts_begin : (x : Span) (e : ℤ) (ys : List Span) → e <ℤ x.start → AllByRecursion (λ s. e <ℤ s.start) (parts x ys)
 parts_begin x e [] h = tt
-parts_begin x e (y ∷ ys) h = all-append (λ s. e <ℤ s.start) (overlap x y) (parts x ys) (overlap_starts x y e (have_shared_tick x y) (greater_left e x.start y.start h)) (parts_begin x e ys h)
+parts_begin x e (y ∷ ys) h = all-append (λ s. e <ℤ s.start) (overlap x y) (parts x ys) (overlap_starts x y e (has_shared_tick x y) (greater_left e x.start y.start h)) (parts_begin x e ys h)
 
 parts_after : (x : Span) (e : ℤ) (ys : List Span) → AllByRecursion (λ q. e <ℤ q.start) ys → AllByRecursion (λ s. e <ℤ s.start) (parts x ys)
 parts_after x e [] h = tt
-parts_after x e (y ∷ ys) h = all-append (λ s. e <ℤ s.start) (overlap x y) (parts x ys) (overlap_starts x y e (have_shared_tick x y) (greater_right e x.start y.start h.0)) (parts_after x e ys h.1)
+parts_after x e (y ∷ ys) h = all-append (λ s. e <ℤ s.start) (overlap x y) (parts x ys) (overlap_starts x y e (has_shared_tick x y) (greater_right e x.start y.start h.0)) (parts_after x e ys h.1)
 
 parts_normalized : (x : Span) (ys : List Span) → IsNormalized ys → IsNormalized (parts x ys)
 parts_normalized x [] n = tt
 parts_normalized x (y ∷ ys) n =
-    normalized-append y.end (overlap x y) (parts x ys) (overlap_normalized x y (have_shared_tick x y) refl) (parts_normalized x ys n.2)
-    (overlap_ends x y y.end (have_shared_tick x y) (lesser_right x.end y.end)) (parts_after x y.end ys (later_than y.end ys n.1 n.2))
+    normalized-append y.end (overlap x y) (parts x ys) (overlap_normalized x y (has_shared_tick x y) refl) (parts_normalized x ys n.2)
+    (overlap_ends x y y.end (has_shared_tick x y) (lesser_right x.end y.end)) (parts_after x y.end ys (later_than y.end ys n.1 n.2))
 
 meet_after : (e : ℤ) (xs ys : List Span) → AllByRecursion (λ q. e <ℤ q.start) xs → AllByRecursion (λ s. e <ℤ s.start) (meet xs ys)
 meet_after e [] ys h = tt

@@ -1,5 +1,6 @@
 -- The laws of joined and bridged ranges.
 use Rattle.std.proofs.Common.{◌≡◌, ◌∙◌, ℤ, pos, ◌+ℤ◌, ◌-ℤ◌, ◌<ℤ◌, ◌≤ℤ◌, Bool, true, false, ◌||◌, List, [], ◌∷◌, ◌++◌, refl, sym, ap, subst, inl, inr, ◌⊎◌, arith}
+use Rattle.std.specs.Int.{int_max}
 use Rattle.std.proofs.lemmas.Int.{ints}
 use Rattle.mse_base.specs.declared.span.Span.{Span}
 use Rattle.mse_base.specs.Spans.{has_tick, has_tick_in, IsNormalized, IsUnion, IsIntersection, IsDifference, IsBridged, IsBridging, IsInGap}
@@ -23,29 +24,39 @@ both_true false false f g = refl
 at_tick : (given : List Span) (u v : ℤ) → u ≡ v → has_tick_in given u ≡ true → has_tick_in given v ≡ true
 at_tick given u v e h = subst (λ (z : ℤ). has_tick_in given z ≡ true) e h
 
-one_of : (from t to : ℤ) → from ≤ℤ t → t ≤ℤ to → to ≤ℤ (from +ℤ pos 0 +ℤ pos 1) → (from ≡ t) ⊎ (to ≡ t)
-one_of from t to a b c = grind (arith, ints)
+one_of : (gap from t to : ℤ) → gap ≤ℤ pos 0 → from ≤ℤ t → t ≤ℤ to → to ≤ℤ (from +ℤ int_max gap (pos 0) +ℤ pos 1) → (from ≡ t) ⊎ (to ≡ t)
+one_of gap from t to g a b c = grind (arith, ints)
+
+-- a gap that is not negative is as it is
+pub near_gap : (gap from to : ℤ) → pos 0 ≤ℤ gap → to ≤ℤ (from +ℤ int_max gap (pos 0) +ℤ pos 1) → to ≤ℤ (from +ℤ gap +ℤ pos 1)
+near_gap gap from to g h = grind (arith, ints)
+
+pub gap_near : (gap from to : ℤ) → to ≤ℤ (from +ℤ gap +ℤ pos 1) → to ≤ℤ (from +ℤ int_max gap (pos 0) +ℤ pos 1)
+gap_near gap from to h = grind (arith, ints)
+
+own_near : (gap t : ℤ) → t ≤ℤ (t +ℤ int_max gap (pos 0) +ℤ pos 1)
+own_near gap t = grind (arith, ints)
 
 -- with no gap a tick is bridged where it is a tick of the spans
-bridged_covers : (given : List Span) (t : ℤ) → IsBridged (pos 0) given t → has_tick_in given t ≡ true
-bridged_covers given t b = elim (one_of b.from t b.to b.above b.below b.near) as (λ _. has_tick_in given t ≡ true) [
+bridged_covers : (gap : ℤ) (given : List Span) (t : ℤ) → gap ≤ℤ pos 0 → IsBridged gap given t → has_tick_in given t ≡ true
+bridged_covers gap given t g b = elim (one_of gap b.from t b.to g b.above b.below b.near) as (λ _. has_tick_in given t ≡ true) [
   | inl e ↦ at_tick given b.from t e b.has_from
   | inr e ↦ at_tick given b.to t e b.has_to
 ]
 
-own_bridge : (gap : ℤ) (given : List Span) (t : ℤ) → pos 0 ≤ℤ gap → has_tick_in given t ≡ true → IsBridged gap given t
-own_bridge gap given t g e = record { from = t; to = t; has_from = e; has_to = e; above = omega (arith, ints); below = omega (arith, ints); near = omega (arith, ints) }
+own_bridge : (gap : ℤ) (given : List Span) (t : ℤ) → has_tick_in given t ≡ true → IsBridged gap given t
+own_bridge gap given t e = record { from = t; to = t; has_from = e; has_to = e; above = omega (arith, ints); below = omega (arith, ints); near = own_near gap t }
 
-pub joined_of_bridged : (given xs : List Span) → IsBridging (pos 0) given xs → IsUnion given xs
-joined_of_bridged given xs b = record {
-  same = λ t. both_true (has_tick_in xs t) (has_tick_in given t) (λ e. bridged_covers given t (b.no_more t e)) (λ e. b.no_less t (own_bridge (pos 0) given t (omega (arith, ints)) e));
+pub joined_of_bridged : (gap : ℤ) (given xs : List Span) → gap ≤ℤ pos 0 → IsBridging gap given xs → IsUnion given xs
+joined_of_bridged gap given xs g b = record {
+  same = λ t. both_true (has_tick_in xs t) (has_tick_in given t) (λ e. bridged_covers gap given t g (b.no_more t e)) (λ e. b.no_less t (own_bridge gap given t e));
   normalized = b.normalized;
 }
 
-pub bridged_of_joined : (given xs : List Span) → IsUnion given xs → IsBridging (pos 0) given xs
-bridged_of_joined given xs j = record {
-  no_more = λ t e. own_bridge (pos 0) given t (omega (arith, ints)) (sym (j.same t) ∙ e);
-  no_less = λ t b. j.same t ∙ bridged_covers given t b;
+pub bridged_of_joined : (gap : ℤ) (given xs : List Span) → gap ≤ℤ pos 0 → IsUnion given xs → IsBridging gap given xs
+bridged_of_joined gap given xs g j = record {
+  no_more = λ t e. own_bridge gap given t (sym (j.same t) ∙ e);
+  no_less = λ t b. j.same t ∙ bridged_covers gap given t g b;
   normalized = j.normalized;
 }
 
@@ -141,10 +152,10 @@ yes_or_no : (b : Bool) → (b ≡ true) ⊎ (b ≡ false)
 yes_or_no true = inl refl
 yes_or_no false = inr refl
 
-pub gap_of_bridged : (gap : ℤ) (given joined : List Span) (t : ℤ) → IsUnion given joined → IsBridged gap given t → (has_tick_in joined t ≡ true) ⊎ IsInGap gap joined t
-gap_of_bridged gap given joined t j b = elim (yes_or_no (has_tick_in joined t)) as (λ _. (has_tick_in joined t ≡ true) ⊎ IsInGap gap joined t) [
+pub gap_of_bridged : (gap : ℤ) (given joined : List Span) (t : ℤ) → pos 0 ≤ℤ gap → IsUnion given joined → IsBridged gap given t → (has_tick_in joined t ≡ true) ⊎ IsInGap gap joined t
+gap_of_bridged gap given joined t g j b = elim (yes_or_no (has_tick_in joined t)) as (λ _. (has_tick_in joined t ≡ true) ⊎ IsInGap gap joined t) [
   | inl e ↦ inl e
-  | inr e ↦ inr (in_gap gap b.from t b.to joined j.normalized e (j.same b.from ∙ b.has_from) (j.same b.to ∙ b.has_to) b.above b.below b.near)
+  | inr e ↦ inr (in_gap gap b.from t b.to joined j.normalized e (j.same b.from ∙ b.has_from) (j.same b.to ∙ b.has_to) b.above b.below (near_gap gap b.from b.to g b.near))
 ]
 
 lasting_left : (front : List Span) (left right : Span) (back : List Span) → IsNormalized (front ++ left ∷ right ∷ back) → (left.start <ℤ left.end) × (right.start <ℤ right.end)
@@ -152,7 +163,7 @@ lasting_left [] left right back n = (n.0, n.2.0)
 lasting_left (x ∷ front) left right back n = lasting_left front left right back n.2
 
 pub bridged_of_gap : (gap : ℤ) (given joined : List Span) (t : ℤ) → pos 0 ≤ℤ gap → IsUnion given joined → (has_tick_in joined t ≡ true) ⊎ IsInGap gap joined t → IsBridged gap given t
-bridged_of_gap gap given joined t g j (inl e) = own_bridge gap given t g (sym (j.same t) ∙ e)
+bridged_of_gap gap given joined t g j (inl e) = own_bridge gap given t (sym (j.same t) ∙ e)
 bridged_of_gap gap given joined t g j (inr i) =
     let n : IsNormalized (i.front ++ i.left ∷ i.right ∷ i.back) = subst (λ (zs : List Span). IsNormalized zs) i.neighbours j.normalized in
     let lasts = lasting_left i.front i.left i.right i.back n in
@@ -173,5 +184,5 @@ bridged_of_gap gap given joined t g j (inr i) =
       has_to = sym (j.same i.right.start) ∙ subst (λ (zs : List Span). has_tick_in zs i.right.start ≡ true) (sym i.neighbours) has_right;
       above = omega (arith, ints);
       below = omega (arith, ints);
-      near = omega (arith, ints);
+      near = gap_near gap before i.right.start (omega (arith, ints));
     }

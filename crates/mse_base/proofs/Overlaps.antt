@@ -3,7 +3,7 @@ use Rattle.std.proofs.Common.{◌≡◌, ℤ, ◌≤ℤ◌, ◌<ℤ◌, int_lt, 
 use Rattle.std.proofs.lemmas.Int.{ints}
 use Rattle.std.proofs.lemmas.List.{same_from_push, append-nil, take_all}
 use Rattle.std.specs.Int.{int_max, int_min}
-use Rattle.mse_base.specs.Meets.{overlap}
+use Rattle.mse_base.specs.Meets.{has_shared_tick, overlap}
 use Rattle.mse_base.specs.declared.span.Span.{Span}
 use Rattle.mse_base.specs.Spans.{has_tick, has_tick_in, IsFirstStartAfter, IsNormalized}
 use Rattle.mse_base.proofs.Sets.{covers-append}
@@ -11,9 +11,6 @@ use Rattle.mse_base.proofs.Unique.{not_yet}
 
 abbrev both : Span → Span → Span
 both x y = record { start = int_max x.start y.start; end = int_min x.end y.end }
-
-abbrev have_shared_tick : Span → Span → Bool
-have_shared_tick x y = int_lt (int_max x.start y.start) (int_min x.end y.end)
 
 abbrev pub AreEndedBefore : List Span → ℤ → Type 0
 AreEndedBefore ss t = (front : List Span) (last : Span) → ss ≡ front ++ last ∷ [] → last.end <ℤ t
@@ -116,10 +113,10 @@ step-left left right xs ys met new x y h e m =
     in
     rw e (record {
       same = same;
-      normalized = found met x y (have_shared_tick x y) refl m.clear m.normalized;
+      normalized = found met x y (has_shared_tick x y) refl m.clear m.normalized;
       xs_normalized = m.xs_normalized.2;
       ys_normalized = m.ys_normalized;
-      clear = clear-left met xs ys x y (have_shared_tick x y) h m.xs_normalized.0 m.xs_normalized.1 m.clear;
+      clear = clear-left met xs ys x y (has_shared_tick x y) h m.xs_normalized.0 m.xs_normalized.1 m.clear;
     })
 
 pub step-right : (left right xs ys met new : List Span) (x y : Span) → y.end <ℤ x.end → new ≡ met ++ overlap x y → IsIntersectionSoFar left right (x ∷ xs) (y ∷ ys) met → IsIntersectionSoFar left right (x ∷ xs) ys new
@@ -132,10 +129,10 @@ step-right left right xs ys met new x y h e m =
     in
     rw e (record {
       same = same;
-      normalized = found met x y (have_shared_tick x y) refl m.clear m.normalized;
+      normalized = found met x y (has_shared_tick x y) refl m.clear m.normalized;
       xs_normalized = m.xs_normalized;
       ys_normalized = m.ys_normalized.2;
-      clear = clear-right met xs ys x y (have_shared_tick x y) h m.ys_normalized.0 m.ys_normalized.1 m.clear;
+      clear = clear-right met xs ys x y (has_shared_tick x y) h m.ys_normalized.0 m.ys_normalized.1 m.clear;
     })
 
 -- a list by its head, as a slice pattern gives it

@@ -1,10 +1,10 @@
 -- Lists of spans as sets of ticks.
-use Rattle.std.proofs.Common.{◌≡◌, ◌∙◌, ℤ, pos, Bool, true, false, ◌||◌, ◌&&◌, not, List, [], ◌∷◌, ◌++◌, refl, ap, sym, arith, int_le, int_lt}
+use Rattle.std.proofs.Common.{◌≡◌, ◌∙◌, ℤ, pos, ◌≤ℤ◌, cond, Bool, true, false, ◌||◌, ◌&&◌, not, List, [], ◌∷◌, ◌++◌, refl, ap, sym, arith, int_le, int_lt}
 use Rattle.std.proofs.lemmas.Int.{ints}
 use Rattle.std.specs.Int.{int_min, int_max}
 use Rattle.mse_base.specs.declared.span.Span.{Span}
 use Rattle.mse_base.specs.Spans.{has_tick, has_tick_in}
-use Rattle.mse_base.specs.Bridging.{span_between, ranges_without, is_near, is_near_any}
+use Rattle.mse_base.specs.Bridging.{span_between, ranges_without, is_near, is_near_any, ranges_with, ranges_with_lasting}
 
 pub or_assoc : (a b c : Bool) → ((a || b) || c) ≡ (a || (b || c))
 or_assoc true b c = refl
@@ -19,6 +19,16 @@ or_swap false false = refl
 pub or_none : (a : Bool) → (a || false) ≡ a
 or_none true = refl
 or_none false = refl
+
+-- a span that does not end after it starts
+pub no_tick_in_empty : (s : Span) (t : ℤ) → s.end ≤ℤ s.start → has_tick s t ≡ false
+no_tick_in_empty s t h = grind (arith, ints)
+
+pub empty_adds_nothing : (gap : ℤ) (rs : List Span) (s : Span) → s.end ≤ℤ s.start → ranges_with gap rs s ≡ rs
+empty_adds_nothing gap rs s h = ap (λ c. cond c rs (ranges_with_lasting gap s rs)) (is_le s.end s.start h)
+  where
+    is_le : (a b : ℤ) → a ≤ℤ b → int_le a b ≡ true
+    is_le a b h = grind (arith, ints)
 
 pub covers-append : (xs ys : List Span) (t : ℤ) → has_tick_in (xs ++ ys) t ≡ (has_tick_in xs t || has_tick_in ys t)
 covers-append [] ys t = refl

@@ -1,12 +1,16 @@
 -- The ticks that lists of ranges share, as a list, and the range among these that has a time.
-use Rattle.std.specs.Prelude.{int_lt, List, [], ◌∷◌, fold, flat_map, Option, Some, None, option_to_list, if◌then◌else◌}
+use Rattle.std.specs.Prelude.{int_lt, Bool, List, [], ◌∷◌, fold, flat_map, Option, Some, None, option_to_list, if◌then◌else◌}
 use Rattle.std.specs.Int.{int_min, int_max}
 use Rattle.mse_base.specs.declared.span.Span.{Span}
+
+-- the spans share a tick
+abbrev pub has_shared_tick : Span → Span → Bool
+has_shared_tick x y = int_lt (int_max x.start y.start) (int_min x.end y.end)
 
 -- the ticks that two spans share, if there are any
 abbrev pub overlap_span : Span → Span → Option Span
 overlap_span x y =
-    if int_lt (int_max x.start y.start) (int_min x.end y.end)
+    if has_shared_tick x y
     then Some (record { start = int_max x.start y.start; end = int_min x.end y.end })
     else None
 

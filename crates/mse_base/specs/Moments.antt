@@ -1,6 +1,6 @@
 -- Comparisons of times, of points of time, and of kinds of tracks. No time is before or after a
 -- point of time that is not a number.
-use Rattle.std.specs.Prelude.{ℤ, int_lt, int_le, Bool, true, false, List, fold, Option, Some, None}
+use Rattle.std.specs.Prelude.{ℤ, int_lt, int_le, ◌≤ℤ◌, Bool, true, false, List, fold, Option, Some, None}
 use Rattle.std.specs.Ordering.{int_eq}
 use Rattle.std.specs.Int.{int_min, int_max}
 use Rattle.mse_base.specs.declared.ticks.Moment.{Moment}
@@ -43,6 +43,16 @@ is_same_moment (At a) Infinite = false
 is_same_moment Infinite Nan = false
 is_same_moment Infinite (At b) = false
 is_same_moment Infinite Infinite = true
+
+-- the point of time is not after another one; one that is not a number is after none
+abbrev pub IsNotAfter : Moment → Moment → Type 0
+IsNotAfter Nan e = Unit {0}
+IsNotAfter (At d) Nan = ⊥
+IsNotAfter (At d) (At e) = d ≤ℤ e
+IsNotAfter (At d) Infinite = Unit {0}
+IsNotAfter Infinite Nan = ⊥
+IsNotAfter Infinite (At e) = ⊥
+IsNotAfter Infinite Infinite = Unit {0}
 
 -- the greater of a point of time and a time; the time where the point is not a number
 abbrev pub greater_moment : Moment → ℤ → Moment

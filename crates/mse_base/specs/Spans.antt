@@ -1,5 +1,6 @@
 -- Ranges of time. Lists of spans are told by the sets of ticks that they cover.
 use Rattle.std.specs.Prelude.{◌≡◌, ℕ, ℤ, pos, ◌+ℤ◌, ◌-ℤ◌, ◌<ℤ◌, ◌≤ℤ◌, int_lt, int_le, Bool, true, false, not, ◌&&◌, ◌||◌, List, [], ◌∷◌, ◌++◌, Option, Some, None}
+use Rattle.std.specs.Int.{int_max}
 use Rattle.mse_base.specs.declared.span.Span.{Span}
 
 -- what contracts see of ranges: the spans, and how many more there is room for
@@ -42,7 +43,8 @@ pub record IsDifference (from to : ℤ) (given left : List Span) : Type 0 where
       has_tick_in left t ≡ (has_tick_in given t && not (int_le from t && int_lt t to))
   pub normalized : IsNormalized left
 
--- the tick is one of the spans, or lies between two of their ticks with at most `gap` ticks between the two
+-- the tick is one of the spans, or lies between two of their ticks with at most `gap` ticks between the two; a
+-- negative gap is as 0
 pub record IsBridged (gap : ℤ) (given : List Span) (t : ℤ) : Type 0 where
   pub from : ℤ
   pub to : ℤ
@@ -50,7 +52,7 @@ pub record IsBridged (gap : ℤ) (given : List Span) (t : ℤ) : Type 0 where
   pub has_to : has_tick_in given to ≡ true
   pub above : from ≤ℤ t
   pub below : t ≤ℤ to
-  pub near : to ≤ℤ (from +ℤ gap +ℤ pos 1)
+  pub near : to ≤ℤ (from +ℤ int_max gap (pos 0) +ℤ pos 1)
 
 -- the normalized ranges whose ticks are just the bridged ticks of the given spans
 pub record IsBridging (gap : ℤ) (given bridged : List Span) : Type 0 where

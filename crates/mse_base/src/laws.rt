@@ -1,17 +1,24 @@
 //! What follows from the definitions of this crate: functions that do nothing, with the laws as
 //! their contracts.
 
-ghost use Rattle.std.specs.Prelude.{◌≡◌, ◌≢◌, ◌⊎◌, ◌↔◌, ℤ, ℕ, ◌<◌, ◌≤◌, ◌≤ℤ◌, pos, List, [], ◌∷◌, ◌++◌, length, map, find, Option, true};
+ghost use Rattle.std.specs.Prelude.{◌≡◌, ◌≢◌, ◌⊎◌, ◌↔◌, ℤ, ℕ, ◌<◌, ◌≤◌, ◌≤ℤ◌, pos, List, [], ◌∷◌, ◌++◌, length, map, find, Option, true, false};
 ghost use Rattle.std.specs.List.{AllByRecursion, list_all};
 ghost use Rattle.mse_base.specs.Time.{floor_div, IsFloor};
-ghost use Rattle.mse_base.specs.Spans.{has_tick_in, reaches, IsNormalized, IsUnion, IsIntersection, IsDifference, IsBridging, IsBridged, IsInGap};
-ghost use Rattle.mse_base.specs.Bridging.{bridged_ranges};
+ghost use Rattle.mse_base.specs.Spans.{has_tick, has_tick_in, reaches, IsNormalized, IsUnion, IsIntersection, IsDifference, IsBridging, IsBridged, IsInGap};
+ghost use Rattle.mse_base.specs.Bridging.{bridged_ranges, ranges_with};
 ghost use Rattle.mse_base.specs.Meets.{meet, meet_of_all, overlap_of_two, overlap_of_all};
 ghost use Rattle.mse_base.specs.declared.span.Span.{Span};
 
 /// `convert` rounds to the greatest whole number of ticks that is not above the quotient.
 pub fn floor()
     ensures { (z : ℤ) (d : ℕ) → 0 < d → IsFloor z d (floor_div z d) }
+{}
+
+/// A span that does not end after it starts has no tick, and adds nothing to ranges.
+pub fn empty_spans()
+    ensures no_tick { (s : Span) (t : ℤ) → s.end ≤ℤ s.start → has_tick s t ≡ false }
+    ensures adds_nothing { (gap : ℤ) (rs : List Span) (s : Span) → s.end ≤ℤ s.start
+        → ranges_with gap rs s ≡ rs }
 {}
 
 /// Ranges that are told by their ticks are one list.
@@ -26,13 +33,14 @@ pub fn one_list()
 {}
 
 /// Joining spans one after another gives their bridged ranges, which are never more than the
-/// spans. With no gap these are the joined ranges.
+/// spans. With no gap, or a gap below 0, these are the joined ranges.
 pub fn bridging()
     ensures made { (gap : ℤ) (given : List Span) → pos 0 ≤ℤ gap →
         IsBridging gap given (bridged_ranges gap given) }
     ensures not_more { (gap : ℤ) (given : List Span) →
         length (bridged_ranges gap given) ≤ length given }
-    ensures no_gap { (given xs : List Span) → IsBridging (pos 0) given xs ↔ IsUnion given xs }
+    ensures no_gap { (gap : ℤ) (given xs : List Span) → gap ≤ℤ pos 0 →
+        IsBridging gap given xs ↔ IsUnion given xs }
 {}
 
 /// A tick is bridged exactly where it is a tick of the joined ranges, or lies in a gap of at most

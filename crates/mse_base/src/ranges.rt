@@ -1,4 +1,4 @@
-ghost use Rattle.std.specs.Prelude.{◌≡◌, ◌↔◌, ◌+◌, ◌≤◌, ◌<ℤ◌, ◌≤ℤ◌, ◌+ℤ◌, ◌-ℤ◌, pos, [], ◌∷◌, ◌++◌, length, slice_get, find, IsTrue, IfOk, OnOk};
+ghost use Rattle.std.specs.Prelude.{◌≡◌, ◌↔◌, ◌+◌, ◌≤◌, ◌<ℤ◌, ◌≤ℤ◌, ◌+ℤ◌, ◌-ℤ◌, pos, [], ◌∷◌, ◌++◌, length, slice_get, find, IsTrue, IfOk, OnOk, OnErr};
 ghost use Rattle.std.specs.Int.{int_max};
 ghost use Rattle.std.specs.List.{filter};
 ghost use Rattle.std.specs.Option.{ForSome};
@@ -44,12 +44,13 @@ impl Ranges {
         }
     }
 
-    /// Makes room for at least `n` more ranges.
+    /// Makes room for at least `n` more ranges. An `Err` leaves the ranges and the room.
     pub fn reserve(&mut self, n: usize) -> Result<(), OutOfMemory>
         ensures spans { self.new.spans ≡ self.old.spans }
         ensures spare { OnOk result (n ≤ self.new.spare) }
         ensures room { self.old.spare + length self.old.spans ≤ self.new.spare + length
             self.new.spans }
+        ensures same_room { OnErr result (self.new.spare ≡ self.old.spare) }
     {
         self.spans.reserve(self.alloc, n)?;
         Ok(())
@@ -188,8 +189,7 @@ impl Ranges {
     /// The ranges with the gaps of at most `gap` ticks filled. A negative gap fills none, as 0
     /// does.
     pub fn bridge(&self, gap: Ticks) -> Result<Ranges, OutOfMemory>
-        ensures bridged { IfOk result (λ r. IsBridging
-            (int_max gap (pos 0)) self.now.spans r.spans) }
+        ensures bridged { IfOk result (λ r. IsBridging gap self.now.spans r.spans) }
         ensures spans { IfOk result (λ r. r.spans
             ≡ bridged_ranges (int_max gap (pos 0)) self.now.spans) }
         ensures ranges { IfOk result (λ r. IsRanges (int_max gap (pos 0)) r.spans) }

@@ -1,6 +1,6 @@
 //! Many spans: a list in blocks.
 
-ghost use Rattle.std.specs.Prelude.{◌≡◌, ◌+◌, ◌-◌, ◌*◌, ◌<◌, ◌≤◌, ◌<ℤ◌, ◌≤ℤ◌, ◌-ℤ◌, [], length, take, drop, IfOk, OnOk, slice_index_or, slice_set, vec_capacity};
+ghost use Rattle.std.specs.Prelude.{◌≡◌, ◌+◌, ◌-◌, ◌*◌, ◌<◌, ◌≤◌, ◌<ℤ◌, ◌≤ℤ◌, ◌-ℤ◌, [], length, take, drop, IfOk, OnOk, OnErr, slice_index_or, slice_set, vec_capacity};
 ghost use Rattle.std.specs.List.{AllByRecursion, insert, remove};
 ghost use Rattle.mse_base.specs.Spans.{IsNormalized};
 ghost use Rattle.mse_base.specs.Rows.{row_items, start, row, AreFilled, AreEmpty};
@@ -212,6 +212,7 @@ impl SpanBlocks {
         ensures spans { self.new.spans ≡ self.old.spans }
         ensures spare { OnOk result (n ≤ self.new.spare) }
         ensures no_room_lost { self.old.spare ≤ self.new.spare }
+        ensures same_room { OnErr result (self.new.spare ≡ self.old.spare) }
     {
         if n <= self.spare {
             return Ok(());

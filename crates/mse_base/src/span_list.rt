@@ -1,6 +1,6 @@
 //! A list of spans: few in one vector, many in blocks.
 
-ghost use Rattle.std.specs.Prelude.{◌≡◌, ◌+◌, ◌<◌, ◌≤◌, ◌<ℤ◌, ◌≤ℤ◌, ◌-ℤ◌, [], ◌∷◌, ◌++◌, length, take, drop, IfOk, OnOk, slice_index_or, slice_set};
+ghost use Rattle.std.specs.Prelude.{◌≡◌, ◌+◌, ◌<◌, ◌≤◌, ◌<ℤ◌, ◌≤ℤ◌, ◌-ℤ◌, [], ◌∷◌, ◌++◌, length, take, drop, IfOk, OnOk, OnErr, slice_index_or, slice_set};
 ghost use Rattle.std.specs.List.{AllByRecursion};
 ghost use Rattle.mse_base.specs.Spans.{IsNormalized};
 
@@ -161,6 +161,7 @@ impl SpanList {
         ensures spans { self.new.spans ≡ self.old.spans }
         ensures spare { OnOk result (n ≤ self.new.spare) }
         ensures no_room_lost { self.old.spare ≤ self.new.spare }
+        ensures same_room { OnErr result (self.new.spare ≡ self.old.spare) }
     {
         if n <= self.spare() {
             return Ok(());

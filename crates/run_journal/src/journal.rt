@@ -1,4 +1,4 @@
-ghost use Rattle.std.specs.Prelude.{◌≡◌, ◌≤◌, ◌+◌, ◌++◌, ◌∷◌, [], OnOk, length, slice_get, option_map};
+ghost use Rattle.std.specs.Prelude.{◌≡◌, ◌≤◌, ◌+◌, ◌++◌, ◌∷◌, [], OnOk, OnErr, length, slice_get, option_map};
 ghost use Rattle.mse_calls.specs.declared.entry.Entry.TheVariants.{Work};
 ghost use Rattle.run_journal.specs.EntryRef.{entry_of};
 
@@ -70,11 +70,11 @@ impl Journal {
         Some(entry_ref(*place, &self.calls, &self.pieces))
     }
 
-    /// Makes room for at least `n` more entries. The room from before stays, also where it finds
-    /// no memory.
+    /// Makes room for at least `n` more entries. An `Err` leaves the entries and the room.
     pub fn reserve(&mut self, n: usize) -> Result<(), OutOfMemory>
         ensures spare { OnOk result (n ≤ self.new.spare) }
         ensures no_room_lost { self.old.spare ≤ self.new.spare }
+        ensures same_room { OnErr result (self.new.spare ≡ self.old.spare) }
         ensures entries { self.new.entries ≡ self.old.entries }
     {
         if n <= self.spare {
@@ -90,6 +90,7 @@ impl Journal {
     fn reserve_more(&mut self, n: usize) -> Result<(), OutOfMemory>
         ensures spare { OnOk result (n ≤ self.new.spare) }
         ensures no_room_lost { self.old.spare ≤ self.new.spare }
+        ensures same_room { OnErr result (self.new.spare ≡ self.old.spare) }
         ensures entries { self.new.entries ≡ self.old.entries }
     {
         match self.make_room(n.max(MANY)) {
@@ -102,6 +103,7 @@ impl Journal {
     fn make_room(&mut self, n: usize) -> Result<(), OutOfMemory>
         ensures spare { OnOk result (n ≤ self.new.spare) }
         ensures no_room_lost { self.old.spare ≤ self.new.spare }
+        ensures same_room { OnErr result (self.new.spare ≡ self.old.spare) }
         ensures entries { self.new.entries ≡ self.old.entries }
     {
         self.places.try_reserve(n)?;

@@ -10,4 +10,4 @@ pub returns-clause-not_more : goal.returns-clause-not_more
 returns-clause-not_more c = length_bridged
 
 pub returns-clause-no_gap : goal.returns-clause-no_gap
-returns-clause-no_gap c = λ given xs. (joined_of_bridged given xs, bridged_of_joined given xs)
+returns-clause-no_gap c = λ gap given xs g. (joined_of_bridged gap given xs g, bridged_of_joined gap given xs g)

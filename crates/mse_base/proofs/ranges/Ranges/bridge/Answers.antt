@@ -2,8 +2,8 @@ use Rattle.std.proofs.Common.{◌≡◌, ◌∙◌, pos, ◌≤ℤ◌, sym, subs
 use Rattle.std.specs.Int.{int_max}
 use Rattle.mse_base.specs.Bridging.{bridged_ranges}
 use Rattle.mse_base.proofs.Merging.{ranges_bridged}
-use Rattle.mse_base.proofs.Extended.{normalized_ranges, bridged_law}
-use Rattle.mse_base.proofs.Filling.{filled_is, from_zero, spans_are, unchanged}
+use Rattle.mse_base.proofs.Extended.{normalized_ranges}
+use Rattle.mse_base.proofs.Filling.{filled_is, filled_law, from_zero, spans_are, unchanged}
 use Rattle.mse_base.proofs.ranges.Ranges.bridge.Goals as goal
 
 pub bridged_of-requires : goal.bridged_of-requires
@@ -17,7 +17,7 @@ invariant_of-result c =
 pub returns-clause-bridged : goal.returns-clause-bridged
 returns-clause-bridged c =
     let e : c.in_ok-spans.spans.spans ≡ bridged_ranges (int_max c.args.gap (pos 0)) c.self.inside.spans.spans = spans_are c.args.gap c.max-longest_gap.result c.zero.result c.self.inside.spans.spans c.as_slice.result.now c.in_ok-spans.spans.spans c.max-longest_gap.ensures c.zero.ensures (c.as_slice.ensures.value ∙ c.in_ok-list.ensures) c.in_ok-spans.ensures in
-    rw (e, ← c.self.view_is) (bridged_law _ c.self.inside.spans.spans (from_zero c.args.gap))
+    rw (e, ← c.self.view_is) (filled_law c.args.gap c.self.inside.spans.spans)
 
 pub returns-clause-spans : goal.returns-clause-spans
 returns-clause-spans c =

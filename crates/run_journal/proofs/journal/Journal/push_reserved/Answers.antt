@@ -1,4 +1,4 @@
-use Rattle.run_journal.proofs.Placing.{entries_pushed}
+use Rattle.run_journal.proofs.GrowingPlaces.{entries_pushed}
 use Rattle.run_journal.proofs.journal.Journal.push_reserved.Goals as goal
 
 pub returns-clause-entries : goal.returns-clause-entries

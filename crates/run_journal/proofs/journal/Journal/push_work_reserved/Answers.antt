@@ -2,7 +2,7 @@ use Rattle.std.proofs.Common.{[], refl, sym}
 use Rattle.std.proofs.lemmas.List.{append-nil}
 use Rattle.mse_calls.specs.declared.entry.Entry.TheVariants as entry
 use Rattle.run_journal.specs.declared.entry_place.EntryPlace.TheVariants.{Work}
-use Rattle.run_journal.proofs.Placing.{entries_pushed}
+use Rattle.run_journal.proofs.GrowingPlaces.{entries_pushed}
 use Rattle.run_journal.proofs.journal.Journal.push_work_reserved.Goals as goal
 
 pub returns-clause-entries : goal.returns-clause-entries
