@@ -23,6 +23,11 @@ pub row-step : (b : List ℕ) → row_of b ≡ row_by row_of (child_of b)
 unfolding row_of
 row-step b = agree (child_of b) (row_in (length b)) row_of (length b) (child-falls b) (λ r l. enough (length b) (suc (length r)) r l (omega arith))
 
+-- there are no more boxes than bytes
+pub row-enough : (b : List ℕ) (n : ℕ) → length b < n → row_in n b ≡ row_of b
+unfolding row_of
+row-enough b n h = enough n (suc (length b)) b h (omega arith)
+
 -- what is left of a row behind its first box
 pub record HasFirstBox (b kind payload rest : List ℕ) : Type 0 where
   pub row : IsSome (row_of rest)

@@ -12,6 +12,7 @@ mod box_header;
 mod child;
 mod entries;
 mod fragment_fields;
+mod laws;
 mod movie_fields;
 mod numbers;
 mod readers;
@@ -26,6 +27,7 @@ pub use fragment_fields::{
     tfdt_time, tfhd_base, tfhd_description, tfhd_duration, tfhd_flags, tfhd_size, tfhd_track,
     trun_count, trun_data_offset, trun_first_flags, trun_sample,
 };
+pub use laws::row_law;
 pub use movie_fields::{
     elst_entry, entry_count, hdlr_handler, mdhd_scale, mehd_duration, mvhd_duration, mvhd_scale,
     tkhd_track, trex_description, trex_duration, trex_flags, trex_size, trex_track,

@@ -1,7 +1,7 @@
 pub mod Clock
-pub mod Reading
-pub mod Placing
-pub mod Linking
-pub mod Stepping
-pub mod Belonging
+pub mod RunSamples
+pub mod RunSlots
+pub mod PlanByRuns
+pub mod RowSteps
+pub mod SlotTracks
 pub mod Counts

@@ -17,4 +17,5 @@ mod track_fragment;
 
 pub use fault::{MoofError, MoofFault};
 pub use moof::read_moof;
+pub use sample::FragmentSample;
 pub use slot::{Plan, Slot, Slots};

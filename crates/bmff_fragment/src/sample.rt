@@ -12,15 +12,15 @@ use std::alloc::Global;
 
 /// A sample of a track fragment run, with what it has by default.
 #[derive(Clone, Copy, Debug)]
-pub(crate) struct FragmentSample {
+pub struct FragmentSample {
     /// How long it lasts, in the media's timescale.
-    pub(crate) duration: u32,
+    pub duration: u32,
     /// How many bytes it has.
-    pub(crate) size: u32,
+    pub size: u32,
     /// Its sample flags.
-    pub(crate) flags: u32,
+    pub flags: u32,
     /// How much later than it is decoded it is presented, in the media's timescale.
-    pub(crate) offset: i64,
+    pub offset: i64,
 }
 
 fn header_flags(header: &RunHeader, i: u32) -> Option<u32>

@@ -30,6 +30,16 @@ pub places-all : (b : List ℕ) → box_places b ≡ rest_places (length b) b
 unfolding box_places
 places-all b = refl
 
+-- there are no more boxes than bytes
+pub places-enough : (b : List ℕ) (n : ℕ) → length b < n → places_in n (length b) b ≡ box_places b
+unfolding box_places
+places-enough b n h = enough (length b) n (suc (length b)) b h (omega arith)
+
+-- a list of enough boxes is the first and those of the bytes behind it
+pub places-step-in : (total n : ℕ) (b : List ℕ) → length b < n → places_in n total b ≡ places_by (places_in n total) total (total - length b) (child_of b)
+places-step-in total zero b h = absurd (omega arith)
+places-step-in total (suc n) b h = agree total (total - length b) (child_of b) (places_in n total) (places_in (suc n) total) (length b) (child-falls b) (λ r l. enough total n (suc n) r (omega arith) (omega arith))
+
 -- the first box of a type, where one may have been found before
 abbrev pub first_or : Option BoxPlace → List ℕ → List BoxPlace → Option BoxPlace
 first_or (Some place) kind places = Some place

@@ -8,8 +8,8 @@ use Rattle.bmff_fragment.specs.declared.fault.MoofFault.{MoofFault}
 use Rattle.bmff_fragment.specs.declared.slot.Slot.{Slot}
 use Rattle.bmff_boxes.specs.Reading.{Fails}
 use Rattle.bmff_fragment.specs.Slots.{IsSlotOf}
-use Rattle.bmff_fragment.proofs.Linking.{plan_is, trafs-whole}
-use Rattle.bmff_fragment.proofs.Belonging.{belong}
+use Rattle.bmff_fragment.proofs.PlanByRuns.{plan_is, trafs-whole}
+use Rattle.bmff_fragment.proofs.SlotTracks.{belong}
 use Rattle.bmff_fragment.proofs.moof.read_moof.Goals as goal
 
 pub read_trafs-requires-clause-small : goal.read_trafs-requires-clause-small

@@ -7,7 +7,7 @@ use mir.Val.{SFits}
 use Rattle.bmff_boxes.specs.Rows.{all_of}
 use Rattle.bmff_boxes.proofs.RowLaws.{all-here}
 use Rattle.bmff_fragment.specs.Steps.{runs_steps}
-use Rattle.bmff_fragment.proofs.Stepping.{run_goes, run_stops, part_stops, part_ends}
+use Rattle.bmff_fragment.proofs.RowSteps.{run_goes, run_stops, part_stops, part_ends}
 use Rattle.bmff_fragment.proofs.moof.read_runs.Goals as goal
 
 pub returns-in_err-at-clause-value : goal.returns-in_err-at-clause-value

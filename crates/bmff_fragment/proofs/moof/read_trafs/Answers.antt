@@ -4,7 +4,7 @@ use lib.Chars.{codes}
 use Rattle.bmff_boxes.specs.Rows.{BoxView, all_of}
 use Rattle.bmff_boxes.proofs.RowLaws.{all-here}
 use Rattle.bmff_fragment.specs.Steps.{trafs_steps}
-use Rattle.bmff_fragment.proofs.Stepping.{traf_goes, traf_stops, trafs_end}
+use Rattle.bmff_fragment.proofs.RowSteps.{traf_goes, traf_stops, trafs_end}
 use Rattle.bmff_fragment.proofs.moof.read_trafs.Goals as goal
 
 pub returns-in_err-at-clause-value : goal.returns-in_err-at-clause-value

@@ -4,7 +4,7 @@ use Rattle.bmff_boxes.proofs.RunLaws.{fields-own, fields-count}
 use Rattle.bmff_boxes.specs.Reading.{need}
 use Rattle.bmff_fragment.specs.declared.fault.MoofFault.TheVariants.{Size}
 use Rattle.bmff_fragment.specs.Samples.{run_sample_of, each, run_samples_of}
-use Rattle.bmff_fragment.proofs.Reading.{all_read, goes_on, sample-is, samples-none}
+use Rattle.bmff_fragment.proofs.RunSamples.{all_read, goes_on, sample-is, samples-none}
 use Rattle.bmff_fragment.proofs.sample.read_samples.Goals as goal
 
 pub returns-in_default-clause-value : goal.returns-in_default-clause-value

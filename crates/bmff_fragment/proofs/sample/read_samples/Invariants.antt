@@ -2,7 +2,7 @@ use Rattle.std.proofs.Common.{◌≡◌, ◌-◌, map, vec_len}
 use Rattle.std.specs.List.{range_with_len}
 use Rattle.std.specs.Vec.{vec_capacity}
 use Rattle.bmff_fragment.specs.Samples.{run_sample_of, each, run_samples_of}
-use Rattle.bmff_fragment.proofs.Reading.{all_read}
+use Rattle.bmff_fragment.proofs.RunSamples.{all_read}
 use Rattle.bmff_fragment.proofs.sample.read_samples.Given as goal
 
 abbrev pub invariant-loop-i : goal.invariant-loop-i

@@ -4,7 +4,7 @@ use Rattle.std.proofs.lemmas.List.Sums.{sum_by_more}
 use Rattle.bmff_fragment.specs.declared.sample.FragmentSample.{FragmentSample}
 use Rattle.bmff_fragment.specs.Times.{Run, slot_at, data_len, duration_of}
 use Rattle.bmff_fragment.specs.Slots.{IsWellFormed}
-use Rattle.bmff_fragment.proofs.Placing.{slots_more, slot_same}
+use Rattle.bmff_fragment.proofs.RunSlots.{slots_more, slot_same}
 use Rattle.bmff_fragment.proofs.timing.push_slots.Goals as goal
 
 -- what stands past the end

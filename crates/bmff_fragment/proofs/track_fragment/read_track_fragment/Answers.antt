@@ -1,6 +1,6 @@
 use Rattle.std.proofs.Common.{sym}
 use Rattle.mse_base.specs.Presentation.{IsReadable, has_id}
-use Rattle.bmff_fragment.proofs.Reading.{found_all}
+use Rattle.bmff_fragment.proofs.RunSamples.{found_all}
 use Rattle.bmff_fragment.proofs.track_fragment.read_track_fragment.Goals as goal
 
 pub returns-clause-readable : goal.returns-clause-readable

@@ -11,7 +11,7 @@ use Rattle.bmff_fragment.specs.declared.slot.Slot.{Slot}
 use Rattle.bmff_boxes.specs.Reading.{◌>>=◌}
 use Rattle.bmff_fragment.specs.Steps.{run_step, runs_steps, first_run, progress_after_runs, runs_part, traf_step, trafs_steps}
 use Rattle.bmff_boxes.specs.Reading.{Fails}
-use Rattle.bmff_fragment.proofs.Linking.{steps_none, steps_more, traf_steps_none, traf_steps_more}
+use Rattle.bmff_fragment.proofs.PlanByRuns.{steps_none, steps_more, traf_steps_none, traf_steps_more}
 
 pub run_goes : (f : TrackFragment) (at at' : RunProgress) (slots slots' : List Slot) (t : List ℕ) (ts : List (List ℕ)) (all : Result (RunProgress × List Slot) MoofFault) → run_step f at slots t ≡ Ok (at', slots') → runs_steps f at slots (t ∷ ts) ≡ all → runs_steps f at' slots' ts ≡ all
 run_goes f at at' slots slots' t ts all e g = sym (steps_more f at slots t ts ∙ ap (λ r. r >>= λ next. runs_steps f next.0 next.1 ts) e) ∙ g

@@ -20,7 +20,7 @@ use Rattle.mse_base.specs.Moments.{is_media}
 use Rattle.bmff_fragment.specs.Plans.{track_with_id, track_fragment_of, runs_of, samples_in, data_end, media_slots, trafs_of}
 use Rattle.bmff_fragment.specs.Slots.{IsWellFormed, IsSlotOf}
 use Rattle.bmff_boxes.proofs.ReadingLaws.{through, needed}
-use Rattle.bmff_fragment.proofs.Linking.{trafs_more, trafs_none}
+use Rattle.bmff_fragment.proofs.PlanByRuns.{trafs_more, trafs_none}
 
 -- ---- the track of a fragment
 
@@ -83,7 +83,7 @@ abbrev slots_in : Result (List Slot) MoofFault → List Slot
 slots_in (Ok slots) = slots
 slots_in (Err fault) = []
 
-media_trafs : (tracks : List TrackInfo) (count : ℕ) (end : ℤ) (trafs : List (List ℕ)) (slots : List Slot) → trafs_of tracks count end trafs ≡ Ok slots → All (IsMedia tracks) slots
+pub media_trafs : (tracks : List TrackInfo) (count : ℕ) (end : ℤ) (trafs : List (List ℕ)) (slots : List Slot) → trafs_of tracks count end trafs ≡ Ok slots → All (IsMedia tracks) slots
 media_trafs tracks count end [] slots e =
     let k : [] ≡ slots = let n = trafs_none tracks count end in cc in
     All-same (IsMedia tracks) slots [] (sym k) (All-nil (IsMedia tracks))
