@@ -2,7 +2,7 @@ pub mod Walks
 pub mod Lookaheads
 pub mod Pieces
 pub mod Parses
-pub mod Holding
+pub mod StateInvariants
 pub mod Latest
 pub mod Suffixes
 pub mod ItemLaws

@@ -2,7 +2,7 @@
 use Rattle.std.proofs.Common.{◌≡◌, ℕ, zero, suc, ◌+◌, ◌<◌, ◌≤◌, Bool, true, false, List, [], ◌∷◌, ◌++◌, length, drop, slice_get, Option, Some, None, refl, ap, sym, ◌∙◌, arith}
 use Rattle.std.proofs.lemmas.List.{append_assoc}
 use Rattle.parser_loop.specs.Walk.{Move, Stop, Pass, Give, StreamKind, items_by, items_from, settle_by, settled_state, after_item, state_at, IsMoveBelow, IsSameWithMore, IsWalk, Lookahead, stay_at, with_items, lookahead_give, lookahead_by, lookahead_in, lookahead_from, Stands, kept_with, item_of, first_by, first_item, lookahead_after, after_by, after_first, count_after, leading_by, leading_count}
-use Rattle.parser_loop.proofs.Walks.{items-step, settle-step, IsSettled, items-at, state-next, settled-at-state, state-more}
+use Rattle.parser_loop.proofs.Walks.{items-step, settle-step, settle-same, settled, IsSettled, items-at, state-next, settled-at-state, state-more}
 
 agree-lookahead : {S I : Type 0} (k : StreamKind S I) (s : S) (m : Move S I) (f g : S → Lookahead S I) (n : ℕ) → IsMoveBelow k n m → ((t : S) → k.size t < n → f t ≡ g t) → lookahead_by k s f m ≡ lookahead_by k s g m
 agree-lookahead k s Stop f g n h e = refl
@@ -156,11 +156,16 @@ keeps-in k w P g (suc n) s h p = rw (lookahead-step k w s) (keeps-at k w P s (k.
 pub keeps : {S I : Type 0} (k : StreamKind S I) (w : IsWalk k) (P : S → Type 0) → ((s : S) → P s → IsKeptByLookahead k P (k.move s)) → (s : S) → P s → P (lookahead_from k s).state
 keeps k w P g s p = keeps-in k w P g (suc (k.size s)) s (omega arith) p
 
--- ---- what is kept stands for a string
+-- ---- what is kept is all that can be taken ahead from a state
 
--- what is kept stands for the walk where more bytes have come
-pub stands-with : {S I : Type 0} (k : StreamKind S I) (w : IsWalk k) (kept : Lookahead S I) (s : S) (c : List ℕ) (n : ℕ) → n ≤ length (items_from k (k.more s c)) → Stands k kept s n → Stands k (kept_with k kept c) (k.more s c) n
-stands-with {S = S} k w kept s c n l h =
+-- all that can be taken ahead from the state at item n on
+record IsAheadAt {S I : Type 0} (k : StreamKind S I) (kept : Lookahead S I) (s : S) (n : ℕ) : Type 0 where
+  taken : n ≤ length (items_from k s)
+  is : kept ≡ lookahead_from k (state_at k n s)
+
+-- this is so too where more bytes have come
+ahead-with : {S I : Type 0} (k : StreamKind S I) (w : IsWalk k) (kept : Lookahead S I) (s : S) (c : List ℕ) (n : ℕ) → n ≤ length (items_from k (k.more s c)) → IsAheadAt k kept s n → IsAheadAt k (kept_with k kept c) (k.more s c) n
+ahead-with {S = S} k w kept s c n l h =
     let t : S = state_at k n s in
     let e : kept_with k kept c ≡ lookahead_from k (k.more t c) = ap (λ r. kept_with k r c) h.is ∙ sym (lookahead-more k w t c) in
     let g : lookahead_from k (k.more t c) ≡ lookahead_from k (state_at k n (k.more s c)) = sym (ap (lookahead_from k) (state-more k w n s c h.taken) ∙ lookahead-settle k w (k.more t c)) in
@@ -172,8 +177,8 @@ at-drop [] (suc n) i = refl
 at-drop (x ∷ xs) (suc n) i = let e : suc n + i ≡ suc (n + i) = omega arith in at-drop xs n i ∙ ap (slice_get (x ∷ xs)) (sym e)
 
 -- the items that are left
-pub stands-items : {S I : Type 0} (k : StreamKind S I) (w : IsWalk k) (kept : Lookahead S I) (s : S) (n : ℕ) → Stands k kept s n → drop n (items_from k s) ≡ kept.items ++ items_from k kept.state
-stands-items {S = S} {I = I} k w kept s n h =
+ahead-items : {S I : Type 0} (k : StreamKind S I) (w : IsWalk k) (kept : Lookahead S I) (s : S) (n : ℕ) → IsAheadAt k kept s n → drop n (items_from k s) ≡ kept.items ++ items_from k kept.state
+ahead-items {S = S} {I = I} k w kept s n h =
     let t : S = state_at k n s in
     sym (items-at k w n s) ∙ lookahead-items k w t ∙ ap (λ (r : Lookahead S I). r.items ++ items_from k r.state) (sym h.is)
 
@@ -187,11 +192,11 @@ kept-rested : {S I : Type 0} (k : StreamKind S I) (w : IsWalk k) (kept : Lookahe
 kept-rested k w kept t e = rw e (is_lookahead k w t)
 
 -- what is kept tells the next item
-pub stands-first : {S I : Type 0} (k : StreamKind S I) (w : IsWalk k) (kept : Lookahead S I) (s : S) (n : ℕ) → Stands k kept s n → first_item k kept ≡ slice_get (items_from k s) n
-stands-first k w kept s n h =
+ahead-first : {S I : Type 0} (k : StreamKind S I) (w : IsWalk k) (kept : Lookahead S I) (s : S) (n : ℕ) → IsAheadAt k kept s n → first_item k kept ≡ slice_get (items_from k s) n
+ahead-first k w kept s n h =
     let z : n + 0 ≡ n = omega arith in
     let r = kept-rested k w kept (state_at k n s) h.is in
-    sym (ap (slice_get (items_from k s)) (sym z) ∙ sym (at-drop (items_from k s) n 0) ∙ ap (λ xs. slice_get xs 0) (stands-items k w kept s n h) ∙ first-is k w kept.items kept.state (k.move kept.state) refl r.rested)
+    sym (ap (slice_get (items_from k s)) (sym z) ∙ sym (at-drop (items_from k s) n 0) ∙ ap (λ xs. slice_get xs 0) (ahead-items k w kept s n h) ∙ first-is k w kept.items kept.state (k.move kept.state) refl r.rested)
 
 -- an item that was taken ahead
 get-front : {X : Type 0} (xs ys : List X) (i : ℕ) → i < length xs → slice_get (xs ++ ys) i ≡ slice_get xs i
@@ -200,9 +205,9 @@ get-front (x ∷ xs) ys zero h = refl
 get-front (x ∷ xs) ys (suc i) h = get-front xs ys i (omega arith)
 
 -- the items that were taken ahead are the next ones
-pub stands-look : {S I : Type 0} (k : StreamKind S I) (w : IsWalk k) (kept : Lookahead S I) (s : S) (n i : ℕ) → i < length kept.items → Stands k kept s n → slice_get kept.items i ≡ slice_get (items_from k s) (n + i)
-stands-look k w kept s n i l h =
-    sym (sym (at-drop (items_from k s) n i) ∙ ap (λ xs. slice_get xs i) (stands-items k w kept s n h) ∙ get-front kept.items (items_from k kept.state) i l)
+ahead-look : {S I : Type 0} (k : StreamKind S I) (w : IsWalk k) (kept : Lookahead S I) (s : S) (n i : ℕ) → i < length kept.items → IsAheadAt k kept s n → slice_get kept.items i ≡ slice_get (items_from k s) (n + i)
+ahead-look k w kept s n i l h =
+    sym (sym (at-drop (items_from k s) n i) ∙ ap (λ xs. slice_get xs i) (ahead-items k w kept s n h) ∙ get-front kept.items (items_from k kept.state) i l)
 
 lead-rested : {S I : Type 0} (k : StreamKind S I) (w : IsWalk k) (s : S) (m : Move S I) → k.move s ≡ m → IsRested k m → leading_count k (items_from k s) ≡ 0
 lead-rested k w s Stop e h = ap (leading_count k) (items-step k w s ∙ ap (items_by (items_from k)) e)
@@ -214,10 +219,10 @@ lead-all k [] others a e = e
 lead-all k (x ∷ items) others a e = ap (leading_by (leading_count k (items ++ others))) a.0 ∙ ap suc (lead-all k items others a.1 e)
 
 -- as many items were taken ahead as stand before the first that may not be
-pub stands-ready : {S I : Type 0} (k : StreamKind S I) (w : IsWalk k) (kept : Lookahead S I) (s : S) (n : ℕ) → Stands k kept s n → length kept.items ≡ leading_count k (drop n (items_from k s))
-stands-ready k w kept s n h =
+ahead-ready : {S I : Type 0} (k : StreamKind S I) (w : IsWalk k) (kept : Lookahead S I) (s : S) (n : ℕ) → IsAheadAt k kept s n → length kept.items ≡ leading_count k (drop n (items_from k s))
+ahead-ready k w kept s n h =
     let r = kept-rested k w kept (state_at k n s) h.is in
-    sym (ap (leading_count k) (stands-items k w kept s n h) ∙ lead-all k kept.items (items_from k kept.state) r.all (lead-rested k w kept.state (k.move kept.state) refl r.rested))
+    sym (ap (leading_count k) (ahead-items k w kept s n h) ∙ lead-all k kept.items (items_from k kept.state) r.all (lead-rested k w kept.state (k.move kept.state) refl r.rested))
 
 -- the next item is taken
 abbrev IsNextTaken : {S I : Type 0} → StreamKind S I → S → S → ℕ → Type 0
@@ -247,7 +252,7 @@ none-after k w [] s (Give item t) e h q = cc
 none-after k w (x ∷ items) s m e h q = cc
 
 abbrev IsFirstTaken : {S I : Type 0} → StreamKind S I → Lookahead S I → S → ℕ → Option I → Type 0
-IsFirstTaken k kept s n o = Stands k (after_first k kept) s (count_after n o)
+IsFirstTaken k kept s n o = IsAheadAt k (after_first k kept) s (count_after n o)
 
 some-not : {X : Type 0} (x : X) (o : Option X) → o ≡ Some x → o ≡ None → ⊥
 some-not x o e f = cc
@@ -257,7 +262,7 @@ get-length [] n x e = absurd (cc)
 get-length (y ∷ xs) zero x e = omega arith
 get-length (y ∷ xs) (suc n) x e = let h = get-length xs n x e in omega arith
 
-after-by-option : {S I : Type 0} (k : StreamKind S I) (w : IsWalk k) (kept : Lookahead S I) (s : S) (n : ℕ) (o : Option I) → first_item k kept ≡ o → Stands k kept s n → IsFirstTaken k kept s n o
+after-by-option : {S I : Type 0} (k : StreamKind S I) (w : IsWalk k) (kept : Lookahead S I) (s : S) (n : ℕ) (o : Option I) → first_item k kept ≡ o → IsAheadAt k kept s n → IsFirstTaken k kept s n o
 after-by-option {S = S} k w kept s n None e h =
     let r = kept-rested k w kept (state_at k n s) h.is in
     rw (none-after k w kept.items kept.state (k.move kept.state) refl r.rested e) h
@@ -267,10 +272,113 @@ after-by-option {S = S} k w kept s n (Some item) e h =
     let q : first_item k (lookahead_from k t) ≡ Some item = sym (ap (first_item k) h.is) ∙ e in
     let g : after_first k kept ≡ lookahead_from k (state_at k (suc n) s) = ap (after_first k) h.is ∙ taken-at k w t (k.move t) refl (settled-at-state k w n s) (some-not item (first_item k (lookahead_from k t)) q) ∙ next-state k w n s in
     record {
-      taken = get-length (items_from k s) n item (sym (stands-first k w kept s n h) ∙ e);
+      taken = get-length (items_from k s) n item (sym (ahead-first k w kept s n h) ∙ e);
       is = g ∙ ap (λ v. lookahead_from k (state_at k v s)) (sym z);
     }
 
 -- what is kept behind the next item stands for the walk, with one item more asked for
+ahead-after : {S I : Type 0} (k : StreamKind S I) (w : IsWalk k) (kept : Lookahead S I) (s : S) (n : ℕ) → IsAheadAt k kept s n → IsAheadAt k (after_first k kept) s (count_after n (first_item k kept))
+ahead-after k w kept s n h = after-by-option k w kept s n (first_item k kept) refl h
+
+-- ---- the state behind a lookahead is that before the first item which is not kept
+
+-- the state before an item is told by the state before the next one
+state-settled : {S I : Type 0} (k : StreamKind S I) (n : ℕ) (s t : S) → settled_state k s ≡ settled_state k t → state_at k n s ≡ state_at k n t
+state-settled k zero s t e = e
+state-settled k (suc n) s t e = ap (λ u. state_at k n (after_item u (k.move u))) e
+
+-- the state before item m of those from item n on
+state-plus : {S I : Type 0} (k : StreamKind S I) (w : IsWalk k) (n m : ℕ) (s : S) → state_at k m (state_at k n s) ≡ state_at k (n + m) s
+state-plus k w zero m s = let e : m ≡ 0 + m = omega arith in state-settled k m (settled_state k s) s (settle-same k w (settled_state k s) (settled k w s)) ∙ ap (λ i. state_at k i s) e
+state-plus k w (suc n) m s = let e : suc (n + m) ≡ suc n + m = omega arith in state-plus k w n m (after_item (settled_state k s) (k.move (settled_state k s))) ∙ ap (λ i. state_at k i s) e
+
+abbrev IsBehindItems : {S I : Type 0} → StreamKind S I → S → Type 0
+IsBehindItems k s = (lookahead_from k s).state ≡ state_at k (length (lookahead_from k s).items) s
+
+over-behind : {S I : Type 0} (k : StreamKind S I) (s : S) (r : Lookahead S I) → lookahead_from k s ≡ r → r.state ≡ state_at k (length r.items) s → IsBehindItems k s
+over-behind k s r e h = rw e h
+
+behind-give : {S I : Type 0} (k : StreamKind S I) (w : IsWalk k) (s t : S) (item : I) (b : Bool) → k.move s ≡ Give item t → lookahead_from k s ≡ lookahead_give s item (lookahead_from k t) b → IsBehindItems k t → IsBehindItems k s
+behind-give k w s t item true q e f =
+    let same : settled_state k s ≡ s = settle-same k w s (rw q tt) in
+    let next : after_item (settled_state k s) (k.move (settled_state k s)) ≡ t = ap (λ u. after_item u (k.move u)) same ∙ ap (after_item s) q in
+    over-behind k s (with_items (item ∷ []) (lookahead_from k t)) e (f ∙ ap (state_at k (length (lookahead_from k t).items)) (sym next))
+behind-give k w s t item false q e f = over-behind k s (stay_at s) e (sym (settle-same k w s (rw q tt)))
+
+behind-at : {S I : Type 0} (k : StreamKind S I) (w : IsWalk k) (s : S) (m : Move S I) → k.move s ≡ m → IsMoveBelow k (k.size s) m → ((t : S) → k.size t < k.size s → IsBehindItems k t) → IsBehindItems k s
+behind-at k w s Stop e h f = over-behind k s (stay_at s) (lookahead-step k w s ∙ ap (lookahead_by k s (lookahead_from k)) e) (sym (settle-same k w s (rw e tt)))
+behind-at k w s (Pass t) e h f =
+    let same : settled_state k s ≡ settled_state k t = settle-step k w s ∙ ap (settle_by s (settled_state k)) e in
+    over-behind k s (lookahead_from k t) (lookahead-step k w s ∙ ap (lookahead_by k s (lookahead_from k)) e) (f t h ∙ sym (state-settled k (length (lookahead_from k t).items) s t same))
+behind-at k w s (Give item t) e h f = behind-give k w s t item (k.runs item) e (lookahead-step k w s ∙ ap (lookahead_by k s (lookahead_from k)) e) (f t h)
+
+behind-in : {S I : Type 0} (k : StreamKind S I) (w : IsWalk k) (n : ℕ) (s : S) → k.size s < n → IsBehindItems k s
+behind-in k w zero s h = absurd (omega arith)
+behind-in k w (suc n) s h = behind-at k w s (k.move s) refl (w.shrinks s) (λ t l. behind-in k w n t (omega arith))
+
+behind : {S I : Type 0} (k : StreamKind S I) (w : IsWalk k) (s : S) → IsBehindItems k s
+behind k w s = behind-in k w (suc (k.size s)) s (omega arith)
+
+-- ---- what is kept stands for a string: that is to be all that can be taken ahead
+
+same-front : {X : Type 0} (xs ys us vs : List X) → length xs ≡ length ys → xs ++ us ≡ ys ++ vs → xs ≡ ys
+same-front [] [] us vs l e = refl
+same-front [] (y ∷ ys) us vs l e = absurd (omega arith)
+same-front (x ∷ xs) [] us vs l e = absurd (omega arith)
+same-front (x ∷ xs) (y ∷ ys) us vs l e =
+    let h : x ≡ y = cc in
+    let t : xs ++ us ≡ ys ++ vs = cc in
+    ap (λ z. z ∷ xs) h ∙ ap (λ zs. y ∷ zs) (same-front xs ys us vs (omega arith) t)
+
+-- what is kept is all that can be taken ahead from the state at item n on
+pub stands-lookahead : {S I : Type 0} (k : StreamKind S I) (w : IsWalk k) (kept : Lookahead S I) (s : S) (n : ℕ) → Stands k kept s n → kept ≡ lookahead_from k (state_at k n s)
+stands-lookahead {S = S} {I = I} k w kept s n h =
+    let t : S = state_at k n s in
+    let r : Lookahead S I = lookahead_from k t in
+    let own : IsAheadAt k r s n = record { taken = h.taken; is = refl } in
+    let l : length kept.items ≡ length r.items = h.ahead ∙ sym (ahead-ready k w r s n own) in
+    let items : kept.items ≡ r.items = same-front kept.items r.items (items_from k kept.state) (items_from k r.state) l (h.items ∙ ahead-items k w r s n own) in
+    let state : kept.state ≡ r.state = h.state ∙ ap (λ i. state_at k (n + i) s) l ∙ sym (behind k w t ∙ state-plus k w n (length r.items) s) in
+    ap (λ (xs : List I). record { items = xs; state = kept.state }) items ∙ ap (λ (u : S). record { items = r.items; state = u }) state
+
+to-ahead : {S I : Type 0} (k : StreamKind S I) (w : IsWalk k) (kept : Lookahead S I) (s : S) (n : ℕ) → Stands k kept s n → IsAheadAt k kept s n
+to-ahead k w kept s n h = record { taken = h.taken; is = stands-lookahead k w kept s n h }
+
+-- and all that can be taken ahead stands for the string
+pub lookahead-stands : {S I : Type 0} (k : StreamKind S I) (w : IsWalk k) (kept : Lookahead S I) (s : S) (n : ℕ) → n ≤ length (items_from k s) → kept ≡ lookahead_from k (state_at k n s) → Stands k kept s n
+lookahead-stands {S = S} {I = I} k w kept s n l e =
+    let t : S = state_at k n s in
+    let own : IsAheadAt k kept s n = record { taken = l; is = e } in
+    record {
+      taken = l;
+      items = sym (ahead-items k w kept s n own);
+      state = ap (λ (r : Lookahead S I). r.state) e ∙ behind k w t ∙ ap (λ (r : Lookahead S I). state_at k (length r.items) t) (sym e) ∙ state-plus k w n (length kept.items) s;
+      ahead = ahead-ready k w kept s n own;
+    }
+
+from-ahead : {S I : Type 0} (k : StreamKind S I) (w : IsWalk k) (kept : Lookahead S I) (s : S) (n : ℕ) → IsAheadAt k kept s n → Stands k kept s n
+from-ahead k w kept s n h = lookahead-stands k w kept s n h.taken h.is
+
+-- what is kept stands for the walk where more bytes have come
+pub stands-with : {S I : Type 0} (k : StreamKind S I) (w : IsWalk k) (kept : Lookahead S I) (s : S) (c : List ℕ) (n : ℕ) → n ≤ length (items_from k (k.more s c)) → Stands k kept s n → Stands k (kept_with k kept c) (k.more s c) n
+stands-with k w kept s c n l h = from-ahead k w (kept_with k kept c) (k.more s c) n (ahead-with k w kept s c n l (to-ahead k w kept s n h))
+
+-- the items that are left
+pub stands-items : {S I : Type 0} (k : StreamKind S I) (w : IsWalk k) (kept : Lookahead S I) (s : S) (n : ℕ) → Stands k kept s n → drop n (items_from k s) ≡ kept.items ++ items_from k kept.state
+stands-items k w kept s n h = sym h.items
+
+-- what is kept tells the next item
+pub stands-first : {S I : Type 0} (k : StreamKind S I) (w : IsWalk k) (kept : Lookahead S I) (s : S) (n : ℕ) → Stands k kept s n → first_item k kept ≡ slice_get (items_from k s) n
+stands-first k w kept s n h = ahead-first k w kept s n (to-ahead k w kept s n h)
+
+-- the items that were taken ahead are the next ones
+pub stands-look : {S I : Type 0} (k : StreamKind S I) (w : IsWalk k) (kept : Lookahead S I) (s : S) (n i : ℕ) → i < length kept.items → Stands k kept s n → slice_get kept.items i ≡ slice_get (items_from k s) (n + i)
+stands-look k w kept s n i l h = ahead-look k w kept s n i l (to-ahead k w kept s n h)
+
+-- as many items were taken ahead as stand before the first that may not be
+pub stands-ready : {S I : Type 0} (k : StreamKind S I) (w : IsWalk k) (kept : Lookahead S I) (s : S) (n : ℕ) → Stands k kept s n → length kept.items ≡ leading_count k (drop n (items_from k s))
+stands-ready k w kept s n h = h.ahead
+
+-- what is kept behind the next item stands for the walk, with one item more asked for
 pub stands-after : {S I : Type 0} (k : StreamKind S I) (w : IsWalk k) (kept : Lookahead S I) (s : S) (n : ℕ) → Stands k kept s n → Stands k (after_first k kept) s (count_after n (first_item k kept))
-stands-after k w kept s n h = after-by-option k w kept s n (first_item k kept) refl h
+stands-after k w kept s n h = from-ahead k w (after_first k kept) s (count_after n (first_item k kept)) (ahead-after k w kept s n (to-ahead k w kept s n h))

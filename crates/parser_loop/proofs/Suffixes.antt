@@ -2,7 +2,7 @@
 use Rattle.std.proofs.Common.{ℕ, ◌+◌, List, drop, refl, ap, ◌∙◌, drop-drop}
 use Rattle.parser_loop.specs.Walk.{Move, Stop, Pass, Give, StreamKind, state_at, IsWalk}
 use Rattle.parser_loop.specs.Parse.{IfMoved, IsSuffix, IsSuffixLeft}
-use Rattle.parser_loop.proofs.Holding.{each-state}
+use Rattle.parser_loop.proofs.StateInvariants.{each-state}
 
 pub suffix-all : (string : List ℕ) → IsSuffix string string
 suffix-all string = record { offset = 0; is = refl }

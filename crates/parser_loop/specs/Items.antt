@@ -1,8 +1,9 @@
 -- The items that the segment parser loop gives (Media Source Extensions, 3.5.1), in every byte stream format. What
 -- may be wrong with a string differs from format to format: `F` is the type of its faults.
-use Rattle.std.specs.Prelude.{◌≡◌, ℕ, Bool, true, false, List, [], ◌∷◌, ◌++◌, Option, Some, None}
+use Rattle.std.specs.Prelude.{◌≡◌, ◌≢◌, ℕ, Bool, true, false, List, [], ◌∷◌, ◌++◌, Option, Some, None}
 use Rattle.std.specs.List.{list_any}
 use Rattle.mse_base.specs.declared.frame.CodedFrame.{CodedFrame}
+use Rattle.mse_base.specs.declared.ticks.Moment.TheVariants.{Nan}
 use Rattle.mse_base.specs.declared.track.Presentation.{Presentation}
 use Rattle.parser_loop.specs.declared.next.Next.{Next}
 use Rattle.parser_loop.specs.declared.next.Next.TheVariants as next
@@ -34,6 +35,13 @@ is_frame (InitItem p offset) = false
 is_frame (FrameItem frame offset) = true
 is_frame SegmentEnd = false
 is_frame (FaultItem f offset) = false
+
+-- an initialization segment says how long its media last, be it without end
+abbrev pub IsTimed : {F : Type 0} → Item F → Type 0
+IsTimed (InitItem p offset) = p.duration ≢ Nan
+IsTimed (FrameItem frame offset) = Unit {0}
+IsTimed SegmentEnd = Unit {0}
+IsTimed (FaultItem f offset) = Unit {0}
 
 -- ---- the latest presentation
 

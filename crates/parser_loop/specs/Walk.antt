@@ -1,7 +1,7 @@
 -- The segment parser loop (Media Source Extensions) in general: a walk over a string of bytes by moves, each
 -- of which may give an item. It is said once, for every type of state and of item. What the bytes mean is the
 -- `move` of a kind of walk.
-use Rattle.std.specs.Prelude.{◌≡◌, ℕ, zero, suc, ◌<◌, ◌+◌, ◌≤◌, Bool, true, false, ◌||◌, List, [], ◌∷◌, ◌++◌, length, Option, Some, None}
+use Rattle.std.specs.Prelude.{◌≡◌, ℕ, zero, suc, ◌<◌, ◌+◌, ◌≤◌, Bool, true, false, ◌||◌, List, [], ◌∷◌, ◌++◌, length, drop, Option, Some, None}
 
 -- What a state does next. `Stop`: bytes are missing, or the walk has ended. `Pass`: it goes on and gives nothing.
 -- `Give`: it gives an item and goes on behind it.
@@ -131,12 +131,24 @@ lookahead_in k (suc n) s = lookahead_by k s (lookahead_in k n) (k.move s)
 unfoldable pub lookahead_from : {S I : Type 0} → StreamKind S I → S → Lookahead S I
 lookahead_from k s = lookahead_in k (suc (k.size s)) s
 
--- What is kept stands for the walk from s on, of whose items n were asked for: it is all that can be taken ahead
--- from the state at item n on. Many strings may lead to one thing kept; each law holds for all of them.
+abbrev pub leading_by : ℕ → Bool → ℕ
+leading_by n true = suc n
+leading_by n false = 0
+
+-- how many items stand before the first that may not be taken ahead
+abbrev pub leading_count : {S I : Type 0} → StreamKind S I → List I → ℕ
+leading_count k [] = 0
+leading_count k (item ∷ items) = leading_by (leading_count k items) (k.runs item)
+
+-- What is kept stands for the walk from s on, of whose items n were asked for: the items kept, and then those of the
+-- state kept, are the items from n on. All that may be taken ahead is, and the state is that of the walk before the
+-- item behind them. Many strings may lead to one thing kept; each law holds for all of them.
 pub record Stands {S I : Type 0} (k : StreamKind S I) (kept : Lookahead S I) (s : S)
     (n : ℕ) : Type 0 where
+  pub items : kept.items ++ items_from k kept.state ≡ drop n (items_from k s)
+  pub ahead : length kept.items ≡ leading_count k (drop n (items_from k s))
+  pub state : kept.state ≡ state_at k (n + length kept.items) s
   pub taken : n ≤ length (items_from k s)
-  pub is : kept ≡ lookahead_from k (state_at k n s)
 
 -- what is kept where more bytes have come
 abbrev pub kept_with : {S I : Type 0} → StreamKind S I → Lookahead S I → List ℕ → Lookahead S I
@@ -178,12 +190,3 @@ after_first k kept = after_by k kept.state kept.items
 abbrev pub count_after : {I : Type 0} → ℕ → Option I → ℕ
 count_after n None = n
 count_after n (Some item) = n + 1
-
-abbrev pub leading_by : ℕ → Bool → ℕ
-leading_by n true = suc n
-leading_by n false = 0
-
--- how many items stand before the first that may not be taken ahead
-abbrev pub leading_count : {S I : Type 0} → StreamKind S I → List I → ℕ
-leading_count k [] = 0
-leading_count k (item ∷ items) = leading_by (leading_count k items) (k.runs item)

@@ -34,7 +34,7 @@ pub fn lookahead_law<S, I>()
 {}
 
 /// What is kept stands for the walk, at the start, after each piece and behind each item that was given, and it
-/// gives the items of the walk.
+/// gives the items of the walk. It is all that can be taken ahead from the state before the next item on.
 pub fn kept_law<S, I>()
     ensures start { (k : StreamKind S I) → IsWalk k → (s : S) → Stands k (lookahead_from k s) s 0 }
     ensures pieces { (k : StreamKind S I) → IsWalk k →
@@ -50,6 +50,8 @@ pub fn kept_law<S, I>()
         slice_get kept.items i ≡ slice_get (items_from k s) (n + i) }
     ensures ready { (k : StreamKind S I) → IsWalk k → (kept : Lookahead S I) (s : S) (n : ℕ) →
         Stands k kept s n → length kept.items ≡ leading_count k (drop n (items_from k s)) }
+    ensures lookahead { (k : StreamKind S I) → IsWalk k → (kept : Lookahead S I) (s : S) (n : ℕ) →
+        Stands k kept s n → kept ≡ lookahead_from k (state_at k n s) }
 {}
 
 /// The parse that a walk makes has its items, and shows before each what is seen of its state.

@@ -35,7 +35,8 @@ use Rattle.parser_loop.proofs.ItemLaws.{is-prefix, leading-length}
 use Rattle.segment_walk.proofs.Latest.{state-latest}
 use Rattle.parser_loop.specs.Parse.{ParserView, NoItem, ItemThen, items_of, seen_before, parse_by, parse_from}
 use Rattle.parser_loop.proofs.Parses.{parse-step, items-parse, seen-parse}
-use Rattle.segment_walk.specs.Segments.{SegmentParse, Onwards, OpenFragment, TopBox, NoFragment, InFragment, is_inside, frame_item_at, view_at, view_without_bytes, parse_once_there, parse_of_fault, parse_of_moov, parse_of_moof, parse_of_use, parse_outside, parse_of_slots, parse_of_data_end, parse_of_mdat, parse_inside, parse_of_box, parse_of_header, parse_of_boxes, segment_parse, items_of_string, latest_before, ready_before}
+use Rattle.segment_walk.specs.Segments.{SegmentParse, Onwards, OpenFragment, TopBox, NoFragment, InFragment, is_inside, frame_item_at, view_at, view_without_bytes, parse_once_there, parse_of_fault, parse_of_moov, parse_of_moof, parse_of_use, parse_outside, parse_of_mdat, parse_inside, parse_of_box, parse_of_header, parse_of_boxes, segment_parse, items_of_string, latest_before, ready_before}
+use Rattle.segment_walk.proofs.Mdats.{parse_of_slots, parse_of_data_end, mdat-slots}
 use Rattle.segment_walk.proofs.WalkLaws.{is_walk, going, once-short, once-there}
 
 -- what is told of a state of the walk
@@ -269,7 +270,8 @@ lies-shift m (k ∷ ks) s =
     ∙ ap (λ c. (leb k.start s.start && c) || is_inside m (shift m ks) s) (leb-shift m s.end k.end)
     ∙ ap (λ c. (leb k.start s.start && leb s.end k.end) || c) (lies-shift m ks s)
 
-slice-shift : {X : Type 0} (b : List X) (m i j : ℕ) → slice_range (drop m b) i j ≡ slice_range b (m + i) (m + j)
+-- a part of the bytes from m on
+pub slice-shift : {X : Type 0} (b : List X) (m i j : ℕ) → slice_range (drop m b) i j ≡ slice_range b (m + i) (m + j)
 slice-shift b m i j = let e : j - i ≡ m + j - (m + i) = omega arith in ap (take (j - i)) (drop-drop i m b) ∙ ap (λ n. take n (drop (m + i) b)) e
 
 frame-same : (b : List ℕ) (m : ℕ) (s : Slot) → frame_item_at b m s ≡ frame_of (drop m b) m s
@@ -331,6 +333,7 @@ in-mdat b n last m slots left taken known begin end i j out inside l k d e g =
     ap (λ i. mdat_at b n last m left (shift m known ++ (record { start = i; end = j }) ∷ []) j) e
     ∙ ap (λ j. mdat_at b n last m left (shift m known ++ (record { start = m + begin; end = j }) ∷ []) j) g
     ∙ ap (λ ks. mdat_at b n last m left ks (m + end)) (sym (shift-append m known begin end))
+    ∙ mdat-slots (parse_of_boxes n b) b (now_in b last m) (fragment m left (known ++ (record { start = begin; end = end }) ∷ []) end)
     ∙ in-data b n last m slots left (known ++ (record { start = begin; end = end }) ∷ []) end left taken out inside l k d
 
 in-box : (b : List ℕ) (n : ℕ) (last : Option Presentation) (m : ℕ) (slots left : List Slot) (taken : ℕ) (known : List DataRange) (end p : ℕ) (kind : TopLevelBox) (begin len : ℕ) → IsParsedOutside b n → IsParsedInside b n → drop taken slots ≡ left → IsAwaitingData known end left → m + p ≤ length b → length b < m + p + suc n → 8 ≤ len → parse_inside (parse_of_boxes n b) b (now_in b last m) (fragment m left known end) (box_of kind (m + p) begin len) ≡ done (going last (Within (open_with slots taken known end (AtBox p))) m (drop m b)) (judge_within (length (drop m b)) p kind begin len)

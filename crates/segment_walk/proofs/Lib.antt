@@ -1,7 +1,9 @@
 pub mod Heads
-pub mod Lying
+pub mod SlotRanges
 pub mod WalkLaws
 pub mod Latest
 pub mod Ordered
 pub mod Places
+pub mod Mdats
 pub mod Boxes
+pub mod Announced

@@ -30,7 +30,7 @@ use Rattle.segment_walk.specs.Segments.{box_by, box_at}
 use Rattle.segment_walk.proofs.WalkLaws.{is_walk, HasSlot, IsStepOfMode, good-step, going}
 use Rattle.std.proofs.lemmas.Bool.Decides.{nat_tests}
 use Rattle.parser_loop.specs.Parse.{IfMoved, IsHaltBehind, IsSuffix, ParserView}
-use Rattle.parser_loop.proofs.Holding.{each-item, each-state, last-item}
+use Rattle.parser_loop.proofs.StateInvariants.{each-item, each-state, last-item}
 use Rattle.std.specs.List.{All}
 use Rattle.std.proofs.lemmas.List.Elements.{All-nil}
 use Rattle.std.proofs.lemmas.Option.{slice_get_within, get_or_from_slice_get}
@@ -43,15 +43,15 @@ abbrev pub HasSuffix : List ℕ → WalkState → Type 0
 HasSuffix b s = s.rest ≡ cond s.failed [] (drop s.offset b)
 
 -- the slots of the movie fragment that is open end behind their start
-abbrev HasOrder : WalkMode → Type 0
+abbrev pub HasOrder : WalkMode → Type 0
 HasOrder (Between phase) = Unit {0}
 HasOrder (Skipping to left) = Unit {0}
 HasOrder (Within o) = All IsOrdered o.slots
 
-record IsFine (b : List ℕ) (s : WalkState) : Type 0 where
-  suffix : HasSuffix b s
-  inside : s.offset ≤ length b
-  order : HasOrder s.mode
+pub record IsFine (b : List ℕ) (s : WalkState) : Type 0 where
+  pub suffix : HasSuffix b s
+  pub inside : s.offset ≤ length b
+  pub order : HasOrder s.mode
 
 -- an item and its place
 abbrev pub IsItemOfString : List ℕ → SegmentItem → Type 0
@@ -60,13 +60,13 @@ IsItemOfString b (FrameItem f at) = (f.payload ≡ slice_range b at (at + length
 IsItemOfString b SegmentEnd = Unit {0}
 IsItemOfString b (FaultItem f at) = Unit {0}
 
--- ---- a presentation is read from a whole box
+-- ---- a presentation and a movie fragment are read from a whole box
 
-abbrev IsWholeBoxRead : Header → BoxStep → Type 0
+abbrev pub IsWholeBoxRead : Header → BoxStep → Type 0
 IsWholeBoxRead h (step.Wait n) = Unit {0}
 IsWholeBoxRead h (step.Skip to len) = Unit {0}
 IsWholeBoxRead h (step.ReadInit len) = (b : List ℕ) (at : ℕ) → at + len ≤ length b → box_by b at h ≡ slice_range b at (at + len)
-IsWholeBoxRead h (step.ReadMoof len) = Unit {0}
+IsWholeBoxRead h (step.ReadMoof len) = (b : List ℕ) (at : ℕ) → at + len ≤ length b → box_by b at h ≡ slice_range b at (at + len)
 IsWholeBoxRead h (step.EnterData begin end) = Unit {0}
 IsWholeBoxRead h (step.NextBox at) = Unit {0}
 IsWholeBoxRead h (step.GiveFrame slot) = Unit {0}
@@ -80,23 +80,26 @@ reads-if h false x y p q = q
 reads-once : (h : Header) (n len : ℕ) (st : BoxStep) → IsWholeBoxRead h st → IsWholeBoxRead h (step_if_there n len st)
 reads-once h n len st p = reads-if h (ltb n len) (step.Wait len) st tt p
 
+reads-box : (kind : List ℕ) (start len : ℕ) (b : List ℕ) (at : ℕ) → at + len ≤ length b → box_by b at (head.Whole kind start len) ≡ slice_range b at (at + len)
+reads-box kind start len b at l = let e : leb (at + len) (length b) ≡ true = grind (arith, nat_tests) in ap (λ c. cond c (slice_range b at (at + len)) []) e
+
 reads-take : (phase : Phase) (type : TopLevelBox) (n : ℕ) (kind : List ℕ) (start len : ℕ) → IsWholeBoxRead (head.Whole kind start len) (step_at_box phase type n len)
 reads-take Waiting FileType n kind start len = tt
 reads-take Waiting SegmentType n kind start len = tt
 reads-take Waiting Movie n kind start len = tt
-reads-take Waiting MovieFragment n kind start len = reads-once (head.Whole kind start len) n len (step.ReadMoof len) tt
+reads-take Waiting MovieFragment n kind start len = reads-once (head.Whole kind start len) n len (step.ReadMoof len) (reads-box kind start len)
 reads-take Waiting MediaData n kind start len = tt
 reads-take Waiting Other n kind start len = tt
 reads-take InInit FileType n kind start len = tt
 reads-take InInit SegmentType n kind start len = tt
-reads-take InInit Movie n kind start len = reads-once (head.Whole kind start len) n len (step.ReadInit len) (λ b at l. let e : leb (at + len) (length b) ≡ true = grind (arith, nat_tests) in ap (λ c. cond c (slice_range b at (at + len)) []) e)
-reads-take InInit MovieFragment n kind start len = reads-once (head.Whole kind start len) n len (step.ReadMoof len) tt
+reads-take InInit Movie n kind start len = reads-once (head.Whole kind start len) n len (step.ReadInit len) (reads-box kind start len)
+reads-take InInit MovieFragment n kind start len = reads-once (head.Whole kind start len) n len (step.ReadMoof len) (reads-box kind start len)
 reads-take InInit MediaData n kind start len = tt
 reads-take InInit Other n kind start len = tt
 reads-take InMedia FileType n kind start len = tt
 reads-take InMedia SegmentType n kind start len = tt
 reads-take InMedia Movie n kind start len = tt
-reads-take InMedia MovieFragment n kind start len = reads-once (head.Whole kind start len) n len (step.ReadMoof len) tt
+reads-take InMedia MovieFragment n kind start len = reads-once (head.Whole kind start len) n len (step.ReadMoof len) (reads-box kind start len)
 reads-take InMedia MediaData n kind start len = tt
 reads-take InMedia Other n kind start len = tt
 
@@ -134,7 +137,7 @@ reads-slot : (h : Header) (rest : List ℕ) (o : Open) (slot : Option Slot) → 
 reads-slot h rest o None = reads-place h rest true o.place
 reads-slot h rest o (Some slot) = reads-if h (is_in_ranges o.known slot) _ _ (reads-once h (length rest) slot.end (step.GiveFrame slot) tt) (reads-if h (ltb slot.start o.end) _ _ tt (reads-place h rest false o.place))
 
-reads : (ready : Bool) (rest : List ℕ) (m : WalkMode) → IsWholeBoxRead (header_of rest) (step_of ready rest m)
+pub reads : (ready : Bool) (rest : List ℕ) (m : WalkMode) → IsWholeBoxRead (header_of rest) (step_of ready rest m)
 unfolding step_of
 reads ready rest (Between phase) = reads-between ready phase (length rest) (header_of rest)
 reads ready rest (Skipping to left) = tt
@@ -161,7 +164,7 @@ own-there b rest offset i j e o h k =
 behind-there : (b rest : List ℕ) (offset n : ℕ) → rest ≡ drop offset b → offset ≤ length b → n ≤ length rest → offset + n ≤ length b
 behind-there b rest offset n e o k = let m : length rest ≡ length b - offset = ap length e ∙ length-drop offset b in omega arith
 
-abbrev IsMoveInString : List ℕ → Move WalkState SegmentItem → Type 0
+abbrev pub IsMoveInString : List ℕ → Move WalkState SegmentItem → Type 0
 IsMoveInString b m = IfMoved (IsFine b) (IsItemOfString b) m
 
 -- the same place, in another mode or behind a fault
@@ -171,10 +174,14 @@ at_place last m offset rest failed = record { last = last; mode = m; offset = of
 fine : (b : List ℕ) (last : Option Presentation) (m : WalkMode) (offset : ℕ) (rest : List ℕ) (failed : Bool) → rest ≡ cond failed [] (drop offset b) → offset ≤ length b → HasOrder m → IsFine b (at_place last m offset rest failed)
 fine b last m offset rest failed e o g = record { suffix = e; inside = o; order = g }
 
+-- the box at the place of the walk, of which all bytes are there
+pub whole-box : (b rest : List ℕ) (offset len : ℕ) → rest ≡ drop offset b → offset ≤ length b → len ≤ length rest → ((b : List ℕ) (at : ℕ) → at + len ≤ length b → box_by b at (header_of rest) ≡ slice_range b at (at + len)) → box_at b offset ≡ take len rest
+whole-box b rest offset len e o k h = ap (λ xs. box_by b offset (header_of xs)) (sym e) ∙ h b offset (behind-there b rest offset len e o k) ∙ sliced b offset len ∙ ap (take len) (sym e)
+
 stays-init : (b : List ℕ) (last : Option Presentation) (m : WalkMode) (offset : ℕ) (rest : List ℕ) (len : ℕ) (r : Result Presentation InitFault) → IsFine b (going last m offset rest) → IsWholeBoxRead (header_of rest) (step.ReadInit len) → 8 ≤ len → len ≤ length rest → init_of (take len rest) ≡ r → IsMoveInString b (move_of_init (going last m offset rest) len r)
 stays-init b last m offset rest len (Ok p) e h n k q =
     let whole : offset + len ≤ length b = behind-there b rest offset len e.suffix e.inside k in
-    let box : box_at b offset ≡ take len rest = ap (λ xs. box_by b offset (header_of xs)) (sym e.suffix) ∙ h b offset whole ∙ sliced b offset len ∙ ap (take len) (sym e.suffix) in
+    let box : box_at b offset ≡ take len rest = whole-box b rest offset len e.suffix e.inside k h in
     (ap init_of box ∙ q, fine b (Some p) (Between Waiting) (offset + len) (drop len rest) false (ap (drop len) e.suffix ∙ drop-drop len offset b) whole tt)
 stays-init b last m offset rest len (Err f) e h n k q = (tt, fine b last m offset [] true refl e.inside e.order)
 
@@ -221,10 +228,10 @@ stays-unless : (b : List ℕ) (last : Option Presentation) (m : WalkMode) (offse
 stays-unless b last m offset rest true e = tt
 stays-unless b last m offset rest false e = stays-mode b last m offset rest e
 
-stays : (b : List ℕ) (s : WalkState) → IsFine b s → IsMoveInString b (segments.move s)
+pub stays : (b : List ℕ) (s : WalkState) → IsFine b s → IsMoveInString b (segments.move s)
 stays b s e = stays-unless b s.last s.mode s.offset s.rest s.failed e
 
-at-start : (b : List ℕ) (last : Option Presentation) → IsFine b (start last b)
+pub at-start : (b : List ℕ) (last : Option Presentation) → IsFine b (start last b)
 at-start b last = record { suffix = refl; inside = omega arith; order = tt }
 
 -- ---- the laws

@@ -1,7 +1,8 @@
 -- What a string of initialization and media segments gives (Media Source Extensions, 3.5.1, segment parser loop; ISO
 -- BMFF byte stream format), told by its top-level boxes: its items, and what is seen of the parser before each. It is a
 -- recursion on the boxes of the whole string, and knows no pieces. All places are offsets in the string.
-use Rattle.std.specs.Prelude.{ℕ, zero, suc, ◌+◌, ◌^◌, nat_lt, nat_le, Bool, false, ◌&&◌, ◌||◌, if◌then◌else◌, List, [], ◌∷◌, ◌++◌, length, drop, slice_get, slice_range, Option, Some, Result, Ok, Err}
+use Rattle.std.specs.Prelude.{◌≡◌, ℕ, zero, suc, ◌+◌, ◌^◌, nat_lt, nat_le, Bool, false, ◌&&◌, ◌||◌, if◌then◌else◌, List, [], ◌∷◌, ◌++◌, length, drop, slice_get, slice_range, Option, Some, None, Result, Ok, Err}
+use Rattle.mse_base.specs.declared.frame.CodedFrame.{CodedFrame}
 use Rattle.mse_base.specs.declared.frame.Phase.{Phase}
 use Rattle.mse_base.specs.declared.frame.Phase.TheVariants.{Waiting, InMedia}
 use Rattle.mse_base.specs.declared.track.Presentation.{Presentation}
@@ -125,27 +126,36 @@ frame_item_at b moof s = FrameItem (record {
   payload = slice_range b (moof + s.start) (moof + s.end);
 }) (moof + s.start)
 
--- The frames of the first slots, as far as their data lie inside the payloads. A slot whose data lie in none of them,
--- and begin before the end of the last, will never have its data in one. `next` is what comes with the slots left.
-abbrev pub parse_of_slots : List ℕ → ParserView → OpenFragment → (List Slot → SegmentParse)
-    → List Slot → SegmentParse
-parse_of_slots b now f next [] = next []
-parse_of_slots b now f next (s ∷ slots) =
-    if is_inside f.moof f.payloads s then
-    parse_once_there b (f.moof + s.end) now
-    (ItemThen now (frame_item_at b f.moof s) (parse_of_slots b now f next slots))
-    else (if nat_lt (f.moof + s.start) f.end
-    then parse_of_fault now fault.OutsideMdat (f.moof + s.start)
-    else next (s ∷ slots))
+-- Why an mdat gives no further coded frame: all were given; or the data of the next slot are not all there, or are to
+-- lie in an mdat that is still to come, or lie in none: they begin at this offset, before the end of the last mdat.
+pub data FramesEnd : Type 0 where
+  AllGiven : FramesEnd
+  BytesMissing : FramesEnd
+  MdatMissing : FramesEnd
+  Outside : ℕ → FramesEnd
 
--- at the end of an mdat: the media segment ends there if no slot is left
-abbrev pub parse_of_data_end : Onwards → ParserView → OpenFragment → List Slot → SegmentParse
-parse_of_data_end onwards now f [] =
-    ItemThen now SegmentEnd (onwards now.latest (NoFragment Waiting) f.end)
-parse_of_data_end onwards now f (s ∷ slots) =
-    onwards now.latest
-    (InFragment (record { moof = f.moof; slots = s ∷ slots; payloads = f.payloads; end = f.end }))
-    f.end
+-- what an mdat gives: coded frames, in order of their slots, the slots that are left, and why no further frame comes
+pub record MdatFrames : Type 0 where
+  pub frames : List SegmentItem
+  pub left : List Slot
+  pub end : FramesEnd
+
+abbrev pub with_frame : SegmentItem → MdatFrames → MdatFrames
+with_frame frame r = record { frames = frame ∷ r.frames; left = r.left; end = r.end }
+
+abbrev pub no_frame : List Slot → FramesEnd → MdatFrames
+no_frame left end = record { frames = []; left = left; end = end }
+
+-- by the slots that are left of a fragment, to whose payloads that of the mdat belongs
+abbrev pub mdat_frames : List ℕ → OpenFragment → List Slot → MdatFrames
+mdat_frames b f [] = no_frame [] AllGiven
+mdat_frames b f (s ∷ slots) =
+    if is_inside f.moof f.payloads s then
+    (if nat_le (f.moof + s.end) (length b)
+    then with_frame (frame_item_at b f.moof s) (mdat_frames b f slots)
+    else no_frame (s ∷ slots) BytesMissing)
+    else (if nat_lt (f.moof + s.start) f.end then no_frame (s ∷ slots) (Outside (f.moof + s.start))
+    else no_frame (s ∷ slots) MdatMissing)
 
 -- the fragment once the header of an mdat is there, whose payload is known from then on
 abbrev pub fragment_with : OpenFragment → TopBox → OpenFragment
@@ -156,11 +166,39 @@ fragment_with f mdat = record {
   end = mdat.end;
 }
 
+abbrev pub with_slots : OpenFragment → List Slot → OpenFragment
+with_slots f slots = record {
+  moof = f.moof;
+  slots = slots;
+  payloads = f.payloads;
+  end = f.end;
+}
+
+-- What follows the frames of the mdat that ends at f.end. Where all were given the media segment ends with it; where
+-- the data of a slot are still to come, a further mdat must.
+abbrev pub parse_behind_frames : Onwards → List ℕ → ParserView → OpenFragment → List Slot → FramesEnd
+    → SegmentParse
+parse_behind_frames onwards b now f left AllGiven =
+    parse_once_there b f.end now
+    (ItemThen now SegmentEnd (onwards now.latest (NoFragment Waiting) f.end))
+parse_behind_frames onwards b now f left BytesMissing = NoItem now
+parse_behind_frames onwards b now f left MdatMissing =
+    parse_once_there b f.end now (onwards now.latest (InFragment (with_slots f left)) f.end)
+parse_behind_frames onwards b now f left (Outside at) = parse_of_fault now fault.OutsideMdat at
+
+-- items that come one after the other, before each of which the same is seen, and what follows
+abbrev pub parse_of_items : ParserView → List SegmentItem → SegmentParse → SegmentParse
+parse_of_items now [] parse = parse
+parse_of_items now (item ∷ items) parse = ItemThen now item (parse_of_items now items parse)
+
+abbrev pub parse_of_frames : Onwards → List ℕ → ParserView → OpenFragment → MdatFrames
+    → SegmentParse
+parse_of_frames onwards b now f r =
+    parse_of_items now r.frames (parse_behind_frames onwards b now f r.left r.end)
+
 -- behind the header of an mdat that ends the payloads of the fragment
 abbrev pub parse_of_mdat : Onwards → List ℕ → ParserView → OpenFragment → SegmentParse
-parse_of_mdat onwards b now f =
-    parse_of_slots b now f
-    (λ slots. parse_once_there b f.end now (parse_of_data_end onwards now f slots)) f.slots
+parse_of_mdat onwards b now f = parse_of_frames onwards b now f (mdat_frames b f f.slots)
 
 -- a movie fragment with its data is held in memory whole
 abbrev pub parse_unless_large : ParserView → OpenFragment → TopBox → SegmentParse → SegmentParse
@@ -254,3 +292,39 @@ box_by b at (head.Whole kind start len) =
 
 abbrev pub box_at : List ℕ → ℕ → List ℕ
 box_at b at = box_by b at (header_of (drop at b))
+
+-- its type, where its header is there and right
+abbrev pub type_by : Header → Option TopLevelBox
+type_by head.Short = None
+type_by (head.Bad f) = None
+type_by (head.Whole kind start len) = Some (box_type kind)
+
+abbrev pub type_at : List ℕ → ℕ → Option TopLevelBox
+type_at b at = type_by (header_of (drop at b))
+
+-- ---- the moof that announces a coded frame
+
+-- the slots are those of the moof at an offset of the string, by the tracks of the latest presentation
+pub record AreSlotsOfMoof (last : Option Presentation) (b : List ℕ) (moof : ℕ) (slots : List Slot)
+    : Type 0 where
+  pub presentation : Presentation
+  pub is_latest : last ≡ Some presentation
+  pub is_moof : type_at b moof ≡ Some MovieFragment
+  pub plan : plan_of presentation.tracks (box_at b moof) ≡ Ok slots
+
+-- the frame at an offset is that of such a slot, which tells its track, its times, its sync mark and where its bytes lie
+pub record IsFrameOfMoof (last : Option Presentation) (b : List ℕ) (frame : CodedFrame)
+    (offset : ℕ) : Type 0 where
+  pub moof : ℕ
+  pub slots : List Slot
+  pub announced : AreSlotsOfMoof last b moof slots
+  pub place : ℕ
+  pub slot : Slot
+  pub is_slot : slice_get slots place ≡ Some slot
+  pub track : frame.track_id ≡ slot.track_id
+  pub pts : frame.pts ≡ slot.pts
+  pub dts : frame.dts ≡ slot.dts
+  pub dur : frame.dur ≡ slot.dur
+  pub sync : frame.sync ≡ slot.sync
+  pub start : offset ≡ moof + slot.start
+  pub payload : frame.payload ≡ slice_range b (moof + slot.start) (moof + slot.end)

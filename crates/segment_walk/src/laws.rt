@@ -8,7 +8,7 @@ ghost use Rattle.parser_loop.specs.Parse.{IsSuffix};
 ghost use Rattle.parser_loop.specs.StringReadings.{StringReading};
 ghost use Rattle.parser_loop.specs.Walk.{IsWalk};
 ghost use Rattle.segment_walk.specs.declared.kinds.StreamFault.{StreamFault};
-ghost use Rattle.segment_walk.specs.Segments.{items_of_string, NoFragment, box_at, held_before, latest_before, next_item, parse_of_boxes, phase_before, ready_before, segment_parse};
+ghost use Rattle.segment_walk.specs.Segments.{IsFrameOfMoof, items_of_string, NoFragment, box_at, held_before, latest_before, next_item, parse_of_boxes, phase_before, ready_before, segment_parse};
 ghost use Rattle.segment_walk.specs.Moves.{segments};
 ghost use Rattle.segment_walk.specs.Strings.{state_before, walk_held, walk_items, walk_phase, walk_ready};
 
@@ -41,11 +41,15 @@ pub fn boxes_law()
         parse_of_boxes boxes whole before (NoFragment Waiting) 0 ≡ segment_parse before whole }
 {}
 
-/// A presentation is what the whole box at its offset reads as. The payload of a coded frame are the bytes of the
-/// string at its offset, which are there. A fault is the last item.
+/// A presentation is what the whole box at its offset reads as. A coded frame is that of a slot which the moof at an
+/// offset of the string has by the tracks of the latest presentation: its track, times and sync mark are the slot's.
+/// Its payload are the bytes of the string at its offset, which are there. A fault is the last item.
 pub fn place_law()
     ensures init { (r : StringReading) (p : Presentation) (offset : ℕ) →
         next_item r ≡ Some (InitItem p offset) → init_of (box_at r.whole offset) ≡ Ok p }
+    ensures announced { (r : StringReading) (frame : CodedFrame) (offset : ℕ) →
+        next_item r ≡ Some (FrameItem frame offset) →
+        IsFrameOfMoof (latest_before r) r.whole frame offset }
     ensures frame { (r : StringReading) (frame : CodedFrame) (offset : ℕ) →
         next_item r ≡ Some (FrameItem frame offset) →
         frame.payload ≡ slice_range r.whole offset (offset + length frame.payload) }

@@ -1,5 +1,5 @@
 use Rattle.parser_loop.specs.Parse.{IsTrue}
-use Rattle.parser_loop.proofs.Holding.{each-item, each-state}
+use Rattle.parser_loop.proofs.StateInvariants.{each-item, each-state}
 use Rattle.parser_loop.proofs.laws.invariant_law.Goals as goal
 
 pub returns-clause-items : goal.returns-clause-items

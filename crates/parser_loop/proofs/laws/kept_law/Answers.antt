@@ -1,4 +1,4 @@
-use Rattle.parser_loop.proofs.Lookaheads.{stands-first, stands-after, stands-look, stands-ready}
+use Rattle.parser_loop.proofs.Lookaheads.{stands-first, stands-after, stands-look, stands-lookahead, stands-ready}
 use Rattle.parser_loop.proofs.Pieces.{stands-start, stands-pieces}
 use Rattle.parser_loop.proofs.laws.kept_law.Goals as goal
 
@@ -19,3 +19,6 @@ returns-clause-look g c = λ k w kept s n i l h. stands-look k w kept s n i l h
 
 pub returns-clause-ready : goal.returns-clause-ready
 returns-clause-ready g c = λ k w kept s n h. stands-ready k w kept s n h
+
+pub returns-clause-lookahead : goal.returns-clause-lookahead
+returns-clause-lookahead g c = λ k w kept s n h. stands-lookahead k w kept s n h

@@ -1,5 +1,5 @@
 use Rattle.parser_loop.specs.Parse.{IsTrue}
-use Rattle.parser_loop.proofs.Holding.{last-item}
+use Rattle.parser_loop.proofs.StateInvariants.{last-item}
 use Rattle.parser_loop.proofs.laws.last_law.Goals as goal
 
 pub returns : goal.returns

@@ -1,5 +1,5 @@
 use Rattle.std.proofs.Common.{sym}
-use Rattle.segment_walk.proofs.Lying.{none-ready}
+use Rattle.segment_walk.proofs.SlotRanges.{none-ready}
 use Rattle.segment_walk.proofs.search.count_ready.Goals as goal
 
 pub returns-in_default : goal.returns-in_default

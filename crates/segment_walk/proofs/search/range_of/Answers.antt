@@ -2,7 +2,7 @@ use Rattle.std.proofs.Common.{rules, of_calls, leb, false, length, arith, sym, s
 use Rattle.std.proofs.lemmas.Fn.{always_returns_same}
 use Rattle.std.proofs.lemmas.List.Sorted.{IsPartitionedBy-leb}
 use Rattle.segment_walk.specs.declared.kinds.DataRange.{DataRange}
-use Rattle.segment_walk.proofs.Lying.{AreStartsBy, among-at, lies-none, lies-in-last, lies-past-last}
+use Rattle.segment_walk.proofs.SlotRanges.{AreStartsBy, among-at, lies-none, lies-in-last, lies-past-last}
 use Rattle.segment_walk.proofs.search.range_of.Goals as goal
 
 pub returns-then-begun_count-eq0-clause-found : goal.returns-then-begun_count-eq0-clause-found

@@ -1,8 +1,8 @@
 -- What holds of each state and each item of a walk.
-use Rattle.std.proofs.Common.{◌≡◌, ℕ, zero, suc, ◌<◌, [], length, slice_get, Some, ap, sym, ◌∙◌, arith}
-use Rattle.parser_loop.specs.Walk.{Move, Stop, Pass, Give, StreamKind, items_by, items_from, settle_by, settled_state, after_item, state_at, IsMoveBelow, IsWalk}
+use Rattle.std.proofs.Common.{◌≡◌, ℕ, zero, suc, ◌<◌, List, [], ◌∷◌, length, drop, slice_get, Some, refl, ap, sym, ◌∙◌, arith}
+use Rattle.parser_loop.specs.Walk.{Move, Stop, Pass, Give, StreamKind, items_by, items_from, settle_by, settled_state, after_item, item_of, state_at, IsMoveBelow, IsWalk}
 use Rattle.parser_loop.specs.Parse.{IfMoved, IsHaltBehind}
-use Rattle.parser_loop.proofs.Walks.{items-step, settle-step}
+use Rattle.parser_loop.proofs.Walks.{IsSettled, items-at, items-step, settle-step, settled-at-state}
 
 abbrev IsTrueOfItems : {S I : Type 0} → StreamKind S I → (I → Type 0) → S → Type 0
 IsTrueOfItems k Q s = (i : ℕ) (item : _) → slice_get (items_from k s) i ≡ Some item → Q item
@@ -65,3 +65,21 @@ last-in k w Q g (suc n) s h i item e r =
 
 pub last-item : {S I : Type 0} (k : StreamKind S I) (w : IsWalk k) (Q : I → Type 0) → ((s : S) → IsHaltBehind k Q (k.move s)) → (s : S) (i : ℕ) (item : I) → slice_get (items_from k s) i ≡ Some item → Q item → suc i ≡ length (items_from k s)
 last-item k w Q g s = last-in k w Q g (suc (k.size s)) s (omega arith)
+
+-- ---- an item is that of the move from the state before it
+
+item-settled : {S I : Type 0} (k : StreamKind S I) (m : Move S I) → IsSettled m → slice_get (items_by (items_from k) m) 0 ≡ item_of m
+item-settled k Stop h = refl
+item-settled k (Pass t) h = absurd h
+item-settled k (Give item t) h = refl
+
+front-of-rest : {X : Type 0} (xs : List X) (n : ℕ) → slice_get xs n ≡ slice_get (drop n xs) 0
+front-of-rest xs zero = refl
+front-of-rest [] (suc n) = refl
+front-of-rest (x ∷ xs) (suc n) = front-of-rest xs n
+
+pub item-of-state : {S I : Type 0} (k : StreamKind S I) (w : IsWalk k) (n : ℕ) (s : S) → slice_get (items_from k s) n ≡ item_of (k.move (state_at k n s))
+item-of-state k w n s =
+    front-of-rest (items_from k s) n
+    ∙ ap (λ items. slice_get items 0) (sym (items-at k w n s) ∙ items-step k w (state_at k n s))
+    ∙ item-settled k (k.move (state_at k n s)) (settled-at-state k w n s)
