@@ -7,3 +7,4 @@ pub mod Places
 pub mod Lasting
 pub mod Latest
 pub mod StreamLaws
+pub mod SeenFrames

@@ -1,5 +1,5 @@
 -- What contracts see of a stream.
-use Rattle.std.specs.Prelude.{ℕ, ◌+◌, ◌-◌, ◌<◌, ◌≤◌, ◌^◌, List, [], ◌∷◌, take, drop, length, Option, Some, None}
+use Rattle.std.specs.Prelude.{◌≡◌, ℕ, ◌+◌, ◌-◌, ◌<◌, ◌≤◌, ◌^◌, List, [], ◌∷◌, take, drop, length, Option, Some, None}
 use Rattle.mse_base.specs.declared.track.Presentation.{Presentation}
 use Rattle.parser_loop.specs.Walk.{settled_state, stay_at}
 use Rattle.parser_loop.specs.Walk as walk
@@ -15,17 +15,27 @@ pub record AdtsView : Type 0 where
   pub fed : ℕ
   pub offered : Option (List ℕ)
 
--- What is kept stands for a reading of a string: it is the walk's state just before the next item, since nothing is
--- taken ahead. Many strings may belong to one stream.
-abbrev pub Stands : WalkState → StringReading → Type 0
-Stands kept r = walk.Stands adts (stay_at kept) (start r.before r.whole) r.taken
+-- What is kept is that of a reading of a string: the walk's state just before the next item, since nothing is taken
+-- ahead.
+abbrev pub IsKeptFor : WalkState → StringReading → Type 0
+IsKeptFor kept r = walk.Stands adts (stay_at kept) (start r.before r.whole) r.taken
+
+-- The stream stands for a reading: what was fed is the whole string. Many strings may belong to one stream.
+pub record Stands (s : AdtsView) (r : StringReading) : Type 0 where
+  pub kept : IsKeptFor s.state r
+  pub fed : s.fed ≡ length r.whole
+
+-- it stands for some reading
+pub record HasReading (s : AdtsView) : Type 0 where
+  pub reading : StringReading
+  pub stands : Stands s reading
 
 -- for each reading that it stands for
-abbrev pub ForEachReading : WalkState → (StringReading → Type 0) → Type 0
-ForEachReading kept p = (r : StringReading) → Stands kept r → p r
+abbrev pub ForEachReading : AdtsView → (StringReading → Type 0) → Type 0
+ForEachReading s p = (r : StringReading) → Stands s r → p r
 
--- what is kept then stands for each reading that this stood for, after a change of it
-abbrev pub StandsAfter : WalkState → (StringReading → StringReading) → WalkState → Type 0
+-- it stands for each reading that it stood for, after a change of it
+abbrev pub StandsAfter : AdtsView → (StringReading → StringReading) → AdtsView → Type 0
 StandsAfter old change new = ForEachReading old (λ r. Stands new (change r))
 
 -- what is kept where more bytes have come
@@ -61,3 +71,9 @@ pub record IsAdtsStream (position : ParsePosition) (bytes : List ℕ) (fed : ℕ
   pub inside : offered_len offered ≤ length bytes
   pub total : position.offset + length bytes ≤ fed + offered_len offered
   pub bounded : fed + offered_len offered < 2 ^ 62
+
+-- what always holds of the fields, and that the stream stands for some reading
+pub record IsStanding (last : Option Presentation) (position : ParsePosition) (bytes : List ℕ)
+    (fed : ℕ) (offered : Option ℕ) : Type 0 where
+  pub fields : IsAdtsStream position bytes fed offered
+  pub stands : HasReading (adts_view last position bytes fed offered)

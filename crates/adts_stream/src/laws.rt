@@ -15,7 +15,7 @@ ghost use Rattle.adts_stream.specs.Frames.{items_of_string, next_item, held_befo
 ghost use Rattle.adts_stream.specs.Places.{IsFrameAt, IsInitAt};
 ghost use Rattle.adts_stream.specs.Rows.{first_frame_items, frame_44100, frame_48000, id3_tag, next_frame_items, reading_of};
 ghost use Rattle.adts_stream.specs.Walk.{WalkState, adts, start, state_before, view_of};
-ghost use Rattle.adts_stream.specs.Streams.{ForEachReading, StandsAfter, kept_with_all};
+ghost use Rattle.adts_stream.specs.Streams.{IsKeptFor, kept_with_all};
 
 /// The items of a string are the first items of each longer string, and all of them where one is a fault.
 pub fn prefix_law()
@@ -67,10 +67,11 @@ pub fn held_law()
 /// However a string was cut, what is kept after its pieces stands for the whole string. And its presentation
 /// is that of the last initialization segment that was given.
 pub fn pieces_law()
-    ensures pieces { (kept : WalkState) (pieces : List (List ℕ)) →
-        StandsAfter kept (with_bytes (concat pieces)) (kept_with_all kept pieces) }
-    ensures latest { (kept : WalkState) → ForEachReading kept (λ r.
-        kept.last ≡ latest_after_all r.before (take r.taken (items_of_string r.before r.whole))) }
+    ensures pieces { (kept : WalkState) (pieces : List (List ℕ)) (r : StringReading) →
+        IsKeptFor kept r →
+        IsKeptFor (kept_with_all kept pieces) (with_bytes (concat pieces) r) }
+    ensures latest { (kept : WalkState) (r : StringReading) → IsKeptFor kept r →
+        kept.last ≡ latest_after_all r.before (take r.taken (items_of_string r.before r.whole)) }
 {}
 
 /// What the definitions give for two frames, for the first 17 of their bytes, for a frame behind a tag, for one of

@@ -2,7 +2,7 @@ ghost use Rattle.std.specs.Prelude.{◌≡◌, ◌↔◌, ℕ, ◌+◌, ◌-◌,
 ghost use Rattle.std.specs.List.{concat};
 ghost use Rattle.mse_base.specs.declared.frame.Phase.TheVariants.{Waiting};
 ghost use Rattle.mse_base.specs.declared.track.Presentation.{Presentation};
-ghost use Rattle.parser_loop.specs.Items.{latest_after_any, answer_item};
+ghost use Rattle.parser_loop.specs.Items.{IsTimed, latest_after_any, answer_item};
 ghost use Rattle.adts_stream.specs.Frames.{items_of_string, next_item, item_ahead, phase_before, ready_before, held_before};
 ghost use Rattle.adts_stream.specs.Walk.{phase_of};
 ghost use Rattle.adts_stream.specs.Values.{position_at_start, ready_of, state_of};
@@ -34,13 +34,13 @@ pub struct AdtsStream {
 
 impl Model for AdtsStream {
     ghost use Rattle.std.specs.List.{concat};
-    ghost use Rattle.adts_stream.specs.Streams.{AdtsView, adts_view, IsAdtsStream};
+    ghost use Rattle.adts_stream.specs.Streams.{AdtsView, adts_view, IsStanding};
 
     ghost Value = { AdtsView };
 
     ghost view = { λ s. adts_view s.last s.position (concat s.input) s.fed s.offered };
 
-    ghost invariant = { λ s. IsAdtsStream s.position (concat s.input) s.fed s.offered };
+    ghost invariant = { λ s. IsStanding s.last s.position (concat s.input) s.fed s.offered };
 }
 
 /// The place before a string.
@@ -96,11 +96,11 @@ fn is_waiting(point: ParsePoint) -> bool
 impl AdtsStream {
     ghost use Rattle.parser_loop.specs.StringReadings.{after_answer, after_reset, string_from, with_bytes};
     ghost use Rattle.adts_stream.specs.Values.{ready_of};
-    ghost use Rattle.adts_stream.specs.Streams.{ForEachReading, Stands, StandsAfter};
+    ghost use Rattle.adts_stream.specs.Streams.{ForEachReading, HasReading, Stands, StandsAfter};
 
     /// A stream of the empty string, with no presentation from before.
     pub fn new(alloc: Global) -> AdtsStream
-        ensures stands { Stands result.state (string_from None) }
+        ensures stands { Stands result (string_from None) }
         ensures last { result.state.last ≡ None }
         ensures fed { result.fed ≡ 0 }
         ensures none_offered { result.offered ≡ None }
@@ -146,7 +146,7 @@ impl AdtsStream {
     pub fn accept(&mut self)
         requires { IsSome self.old.offered }
         ensures stands { IfSome self.old.offered
-            (λ bytes. StandsAfter self.old.state (with_bytes bytes) self.new.state) }
+            (λ bytes. StandsAfter self.old (with_bytes bytes) self.new) }
         ensures last { self.new.state.last ≡ self.old.state.last }
         ensures fed { IfSome self.old.offered
             (λ bytes. self.new.fed ≡ self.old.fed + length bytes) }
@@ -177,7 +177,7 @@ impl AdtsStream {
         requires none_offered { self.old.offered ≡ None }
         requires countable { self.old.fed + length bytes.now < 2 ^ 62 }
         ensures stands { OnOk result
-            (StandsAfter self.old.state (with_bytes bytes.now) self.new.state) }
+            (StandsAfter self.old (with_bytes bytes.now) self.new) }
         ensures last { OnOk result (self.new.state.last ≡ self.old.state.last) }
         ensures fed { OnOk result (self.new.fed ≡ self.old.fed + length bytes.now) }
         ensures none_offered { self.new.offered ≡ None }
@@ -193,8 +193,9 @@ impl AdtsStream {
     pub fn look(&self, i: usize) -> Result<AdtsNext, OutOfMemory>
         requires none_offered { self.now.offered ≡ None }
         requires ready { (i ≡ 0) ⊎ (i < ready_of self.now.state) }
-        ensures { ForEachReading self.now.state
+        ensures item { ForEachReading self.now
             (λ r. IfOk result (λ next. answer_item next ≡ item_ahead r i)) }
+        ensures timed { IfOk result (λ next. IfSome (answer_item next) IsTimed) }
     {
         look_on(self.alloc, &self.last, self.position, &self.input)
     }
@@ -203,10 +204,10 @@ impl AdtsStream {
     /// string gives none until the next reset. An `Err` changes nothing.
     pub fn next(&mut self) -> Result<AdtsNext, OutOfMemory>
         requires { self.old.offered ≡ None }
-        ensures item { ForEachReading self.old.state
+        ensures item { ForEachReading self.old
             (λ r. IfOk result (λ next. answer_item next ≡ next_item r)) }
         ensures stands { IfOk result (λ next.
-            StandsAfter self.old.state (after_answer (answer_item next)) self.new.state) }
+            StandsAfter self.old (after_answer (answer_item next)) self.new) }
         ensures last { IfOk result
             (λ next. self.new.state.last ≡ latest_after_any self.old.state.last
             (answer_item next)) }
@@ -214,6 +215,7 @@ impl AdtsStream {
         ensures none_offered { self.new.offered ≡ None }
         ensures dry { IfOk result (λ next. answer_item next ≡ None → self.new ≡ self.old) }
         ensures err { OnErr result (self.new ≡ self.old) }
+        ensures timed { IfOk result (λ next. IfSome (answer_item next) IsTimed) }
     {
         next_on(
             self.alloc,
@@ -223,13 +225,21 @@ impl AdtsStream {
         )
     }
 
+    /// Hands out that the stream stands for some string; it does nothing.
+    pub fn stands(&self)
+        ensures { HasReading self.now }
+    {
+        // The proof reads off this what always holds of the fields.
+        let _fed = &self.fed;
+    }
+
     /// Whether the parser waits for a segment, before the next item, or at the end of the string where there
     /// is none. Else it is in a media segment: the header of a frame was accepted, and its segment is not at
     /// its end.
     pub fn waiting(&self) -> bool
         requires { self.now.offered ≡ None }
         ensures value { IsTrue result ↔ (phase_of self.now.state.point ≡ Waiting) }
-        ensures phase { ForEachReading self.now.state (λ r.
+        ensures phase { ForEachReading self.now (λ r.
             IsTrue result ↔ (phase_before r ≡ Waiting)) }
     {
         is_waiting(self.position.point)
@@ -240,7 +250,7 @@ impl AdtsStream {
     pub fn ready_frames(&self) -> usize
         requires { self.now.offered ≡ None }
         ensures value { result ≡ ready_of self.now.state }
-        ensures ready { ForEachReading self.now.state (λ r. result ≡ ready_before r) }
+        ensures ready { ForEachReading self.now (λ r. result ≡ ready_before r) }
         ensures few { result ≤ 1 }
     {
         ready(self.position, self.input.len())
@@ -250,7 +260,7 @@ impl AdtsStream {
     pub fn held_len(&self) -> usize
         requires { self.now.offered ≡ None }
         ensures value { result ≡ length self.now.state.rest }
-        ensures held { ForEachReading self.now.state (λ r. result ≡ length (held_before r)) }
+        ensures held { ForEachReading self.now (λ r. result ≡ length (held_before r)) }
     {
         self.input.len()
     }
@@ -259,9 +269,9 @@ impl AdtsStream {
     /// that was given stays (Media Source Extensions, 3.5.2, reset parser state).
     pub fn reset(&mut self)
         requires { self.old.offered ≡ None }
-        ensures stands { Stands self.new.state (string_from self.old.state.last) }
-        ensures latest { ForEachReading self.old.state
-            (λ r. Stands self.new.state (after_reset (items_of_string r.before r.whole) r)) }
+        ensures stands { Stands self.new (string_from self.old.state.last) }
+        ensures latest { ForEachReading self.old
+            (λ r. Stands self.new (after_reset (items_of_string r.before r.whole) r)) }
         ensures last { self.new.state.last ≡ self.old.state.last }
         ensures fed { self.new.fed ≡ 0 }
         ensures none_offered { self.new.offered ≡ None }
@@ -273,7 +283,7 @@ impl AdtsStream {
     /// As `reset`, and the presentation is dropped too.
     pub fn forget(&mut self)
         requires { self.old.offered ≡ None }
-        ensures stands { Stands self.new.state (string_from None) }
+        ensures stands { Stands self.new (string_from None) }
         ensures last { self.new.state.last ≡ None }
         ensures fed { self.new.fed ≡ 0 }
         ensures none_offered { self.new.offered ≡ None }

@@ -13,14 +13,15 @@ use Rattle.bmff_boxes.specs.Reading.{◌>>=◌, need}
 use Rattle.bmff_boxes.specs.Rows.{row_of, first_of, all_of}
 use Rattle.bmff_fragment.specs.declared.fault.MoofFault.{MoofFault}
 use Rattle.bmff_fragment.specs.declared.fault.MoofFault.TheVariants.{Size, NoTraf}
+use Rattle.bmff_fragment.specs.declared.sample.FragmentSample.{FragmentSample}
 use Rattle.bmff_fragment.specs.declared.slot.Slot.{Slot}
 use Rattle.bmff_fragment.specs.Times.{Run, duration_of, tick_at, slot_of, slot_at, slots_of_run, slots_behind}
 use Rattle.mse_base.specs.Moments.{is_media}
 use Rattle.bmff_fragment.specs.Plans.{track_fragment_of, runs_of, samples_in, data_end, media_slots, trafs_of, plan_of}
 use Rattle.bmff_fragment.proofs.Clock.{lasts}
-use Rattle.bmff_fragment.proofs.Linking.{trafs_more, trafs_none}
+use Rattle.bmff_fragment.proofs.PlanByRuns.{trafs_more, trafs_none}
 
--- ---- the slot of a sample, whose type has no name here
+-- ---- the slot of a sample
 
 -- a number over 0 is 0
 floor-none : (a b : ℤ) → a ≤ℤ b → floor_div a 0 ≤ℤ floor_div b 0
@@ -47,17 +48,17 @@ lasts-at t m d (suc scale) e = lasts t m d (omega arith)
 abbrev pub IsLastingSlot : Slot → Type 0
 IsLastingSlot s = pos 0 ≤ℤ s.dur
 
-slot-lasts : (track : TrackInfo) (time start : ℕ) (s : _) → IsLastingSlot (slot_of track time start s)
+slot-lasts : (track : TrackInfo) (time start : ℕ) (s : FragmentSample) → IsLastingSlot (slot_of track time start s)
 unfolding slot_of
 slot-lasts track time start s = lasts-at track (pos time +ℤ s.offset) s.duration track.scale refl
 
 -- ---- the slots of a movie fragment
 
-run-lasts : (track : TrackInfo) (time : ℕ) (run : Run) (pairs : List (ℕ × _)) → All IsLastingSlot (map (slot_at track time run) pairs)
+run-lasts : (track : TrackInfo) (time : ℕ) (run : Run) (pairs : List (ℕ × FragmentSample)) → All IsLastingSlot (map (slot_at track time run) pairs)
 run-lasts track time run [] = All-nil IsLastingSlot
 run-lasts track time run ((k, s) ∷ pairs) = All-cons IsLastingSlot (slot_at track time run (k, s)) (map (slot_at track time run) pairs) (slot-lasts track _ _ s) (run-lasts track time run pairs)
 
-runs-last : (track : TrackInfo) (time : ℕ) (before : List _) (runs : List Run) → All IsLastingSlot (slots_behind track time before runs)
+runs-last : (track : TrackInfo) (time : ℕ) (before : List FragmentSample) (runs : List Run) → All IsLastingSlot (slots_behind track time before runs)
 runs-last track time before [] = All-nil IsLastingSlot
 runs-last track time before (run ∷ runs) =
     All-append IsLastingSlot (slots_of_run track (time + duration_of before) run) (slots_behind track time (before ++ run.samples) runs)

@@ -1,7 +1,8 @@
 pub mod Durations
 pub mod Lasting
-pub mod Parsing
-pub mod Standing
-pub mod Resetting
+pub mod ParserCalls
+pub mod KeptStreams
+pub mod Resets
 pub mod Placed
 pub mod ReadyFrames
+pub mod Timed

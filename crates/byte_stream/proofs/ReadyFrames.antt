@@ -8,7 +8,7 @@ use Rattle.parser_loop.specs.declared.next.Next.TheVariants as next
 use Rattle.byte_stream.specs.declared.next.ByteFault.{ByteFault}
 use Rattle.byte_stream.specs.Readings.{Reading, ByteItem, items_in, ready_at, next_item}
 use Rattle.byte_stream.specs.Streams.{StreamView, HasReading, ForEachReading, ready_of}
-use Rattle.byte_stream.proofs.Standing.{ready-is}
+use Rattle.byte_stream.proofs.KeptStreams.{ready-is}
 use Rattle.byte_stream.proofs.Lasting.{lasting-item}
 
 abbrev pub IsFrame : Option ByteItem → Type 0

@@ -31,8 +31,8 @@ pub record StreamView : Type 0 where
 
 -- what is kept stands for a string of the container that it is of
 abbrev pub StandsIn : ParserState → Container → StringReading → Type 0
-StandsIn (OfSegments kept) Mp4 r = segment_stream.Stands kept r
-StandsIn (OfFrames kept) Adts r = frame_stream.Stands kept r
+StandsIn (OfSegments kept) Mp4 r = segment_stream.IsKeptFor kept r
+StandsIn (OfFrames kept) Adts r = frame_stream.IsKeptFor kept r
 StandsIn (OfSegments kept) Adts r = ⊥
 StandsIn (OfFrames kept) Mp4 r = ⊥
 

@@ -1,5 +1,5 @@
 ghost use Rattle.std.specs.Prelude.{◌≡◌, ◌+◌, ◌<◌, ◌≤◌, ◌^◌, ◌⊎◌, pos, ◌≤ℤ◌, length, Some, None, IsSome, IfSome, IfOk, OnOk, OnErr};
-ghost use Rattle.parser_loop.specs.Items.{FrameItem, latest_after_any, answer_item};
+ghost use Rattle.parser_loop.specs.Items.{FrameItem, IsTimed, latest_after_any, answer_item};
 ghost use Rattle.byte_stream.specs.Readings.{new_reading, reading_from, next_item, item_ahead, ready_at, phase_at, held_at, with_bytes, after_answer, after_reset, IsLasting};
 
 use crate::next::Next;
@@ -112,6 +112,7 @@ impl ByteStream {
         ensures item { ForEachReading self.now (λ r.
             IfOk result (λ next. answer_item next ≡ item_ahead r i)) }
         ensures dur_not_negative { IfOk result (λ next. IfSome (answer_item next) IsLasting) }
+        ensures timed { IfOk result (λ next. IfSome (answer_item next) IsTimed) }
     {
         self.parser.look(i)
     }
@@ -131,6 +132,7 @@ impl ByteStream {
         ensures dry { IfOk result (λ next. answer_item next ≡ None → self.new ≡ self.old) }
         ensures err { OnErr result (self.new ≡ self.old) }
         ensures dur_not_negative { IfOk result (λ next. IfSome (answer_item next) IsLasting) }
+        ensures timed { IfOk result (λ next. IfSome (answer_item next) IsTimed) }
     {
         self.parser.next()
     }

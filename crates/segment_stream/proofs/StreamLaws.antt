@@ -9,6 +9,8 @@ use Rattle.mse_base.specs.declared.frame.Phase.TheVariants.{InMedia, Waiting}
 use Rattle.bmff_boxes.specs.Headers.{header_of}
 use Rattle.bmff_init.specs.declared.fault.InitFault.{InitFault}
 use Rattle.bmff_init.specs.Movies.{init_of}
+use Rattle.bmff_init.specs.declared.form.Form.TheVariants.{Fragmented}
+use Rattle.bmff_init.proofs.PresentationLaws.{presentation-is}
 use Rattle.bmff_fragment.specs.declared.fault.MoofFault.{MoofFault}
 use Rattle.bmff_fragment.specs.declared.slot.Slot.{Slot}
 use Rattle.bmff_fragment.specs.Plans.{plan_of}
@@ -16,7 +18,7 @@ use Rattle.input_chunks.specs.Pieces.{pieces_with, pieces_without_first, pieces_
 use Rattle.input_chunks.proofs.Rows.{bytes-pushed, bytes-without, none-added, none-without}
 use Rattle.parser_loop.specs.Walk.{Move, Stop, Pass, Give, Lookahead, lookahead_from, lookahead_by, lookahead_give, stay_at, kept_with, kept_with_all, first_by, after_by, lookahead_after, first_item, after_first}
 use Rattle.parser_loop.proofs.Walks.{IsSettled, settled-at-state}
-use Rattle.parser_loop.proofs.Lookaheads.{lookahead-step, lookahead-rested, keeps, IsKeptByLookahead, IsRested, stands-first, stands-after, stands-look, stands-ready}
+use Rattle.parser_loop.proofs.Lookaheads.{lookahead-step, lookahead-rested, keeps, IsKeptByLookahead, IsRested, stands-first, stands-after, stands-look, stands-lookahead, stands-ready}
 use Rattle.parser_loop.proofs.Pieces.{stands-start, stands-piece}
 use Rattle.mse_base.specs.declared.frame.Phase.{Phase}
 use Rattle.segment_walk.specs.declared.kinds.ParserMode.{ParserMode}
@@ -24,26 +26,35 @@ use Rattle.segment_walk.specs.declared.kinds.ParserMode.TheVariants as codes
 use Rattle.segment_walk.specs.declared.kinds.BoxStep.{BoxStep}
 use Rattle.segment_walk.specs.declared.kinds.BoxStep.TheVariants as step
 use Rattle.segment_walk.specs.Tables.{SegmentItem}
-use Rattle.parser_loop.specs.Items.{InitItem, FrameItem, SegmentEnd, FaultItem, latest_after_all, latest_after, answer_item}
+use Rattle.parser_loop.specs.Items.{InitItem, FrameItem, SegmentEnd, FaultItem, IsTimed, latest_after_all, latest_after, answer_item}
 use Rattle.segment_walk.specs.Moves.{WalkState, WalkMode, Between, Skipping, Within, Open, move_of_init, move_of_slots, move_of_moof, move_over_byte, move_of_step, step_of, segments, move_unless}
 use Rattle.segment_walk.specs.Strings.{start, state_before, phase_of}
-use Rattle.segment_walk.specs.Segments.{items_of_string, held_before, phase_before, ready_before}
+use Rattle.segment_walk.specs.Segments.{box_at, items_of_string, held_before, phase_before, ready_before}
 use Rattle.segment_walk.proofs.Boxes.{items-boxes, ready-boxes, seen-boxes}
 use Rattle.parser_loop.specs.Parse.{ParserView}
 use Rattle.segment_walk.proofs.WalkLaws.{going, is_walk, good-step, IsStepOfMode}
+use Rattle.segment_walk.proofs.Places.{IsItemOfString, item-place}
 use Rattle.segment_walk.proofs.Latest.{last-move, IsLatestInWalk, state-latest}
 use Rattle.segment_stream.specs.declared.progress.Progress.{Progress}
 use Rattle.segment_stream.specs.declared.progress.ParserPosition.{ParserPosition}
 use Rattle.segment_stream.specs.declared.progress.Tables.{Tables}
 use Rattle.parser_loop.specs.declared.next.Next.{Next}
-use Rattle.parser_loop.specs.StringReadings.{after_answer, string_from, with_bytes}
+use Rattle.parser_loop.specs.StringReadings.{StringReading, after_answer, string_from, with_bytes}
 use Rattle.segment_walk.specs.declared.kinds.StreamFault.{StreamFault}
 use Rattle.segment_stream.specs.declared.stream.Offered.{Offered}
-use Rattle.segment_stream.specs.Kept.{frames, IsCountedIn, IsStillBelow, IsStillAtFront, IsEmptied, IsFoundWith, IsLast, kept_of, progress_at_start, last_bytes, snapshot}
-use Rattle.segment_stream.specs.Streams.{ForEachReading, Stands, StandsAfter, SegmentView, segment_view, pushed_last, IsStreamAtRest, IsStreamWithOffer, IsSegmentStream}
+use Rattle.segment_stream.specs.Kept.{frames, IsCountedIn, IsStillBelow, IsStillAtFront, IsEmptied, IsFoundWith, IsLast, kept_of, progress_at_start, last_bytes, snapshot, ParserSnapshot}
+use Rattle.segment_stream.specs.Streams.{IsKeptFor, Stands, HasReading, ForEachReading, StandsAfter, IsStanding, SegmentView, segment_view, pushed_last, IsStreamAtRest, IsStreamWithOffer, IsSegmentStream}
 use Rattle.segment_stream.proofs.PendingLaws.{some-there, rested}
 use Rattle.segment_stream.proofs.ArmLaws.{all-kept, dropped}
 use Rattle.segment_stream.proofs.Snapshots.{snapshot_of}
+
+-- for each reading that it is kept for
+abbrev pub ForEachKept : Lookahead WalkState SegmentItem → (StringReading → Type 0) → Type 0
+ForEachKept kept p = (r : StringReading) → IsKeptFor kept r → p r
+
+-- what is kept then is for each reading that this was for, after a change of it
+abbrev pub IsKeptAfter : Lookahead WalkState SegmentItem → (StringReading → StringReading) → Lookahead WalkState SegmentItem → Type 0
+IsKeptAfter old change new = ForEachKept old (λ r. IsKeptFor new (change r))
 
 -- ---- the state behind a lookahead is the state before it, but for the frames
 
@@ -143,26 +154,27 @@ alike-at s (Give item t) e d f = alike-give s t item (segments.runs item) refl (
 alike-lookahead : (s : WalkState) → IsSettled (segments.move s) → HasSameBytesAndPhase s (lookahead_from segments s).state
 alike-lookahead s d = alike-at s (segments.move s) refl d (keeping s.last s.mode s.offset s.rest s.failed)
 
-alike-stands : (kept : Lookahead WalkState SegmentItem) → ForEachReading kept (λ r. HasSameBytesAndPhase (state_before r) kept.state)
+alike-stands : (kept : Lookahead WalkState SegmentItem) → ForEachKept kept (λ r. HasSameBytesAndPhase (state_before r) kept.state)
 alike-stands kept r h =
     let s : WalkState = state_before r in
     let a = alike-lookahead s (settled-at-state segments is_walk r.taken (start r.before r.whole)) in
-    (ap (λ (k : Lookahead WalkState SegmentItem). k.state.rest) h.is ∙ a.0, ap (λ (k : Lookahead WalkState SegmentItem). phase_of k.state.mode) h.is ∙ a.1)
+    let e = stands-lookahead segments is_walk kept (start r.before r.whole) r.taken h in
+    (ap (λ (k : Lookahead WalkState SegmentItem). k.state.rest) e ∙ a.0, ap (λ (k : Lookahead WalkState SegmentItem). phase_of k.state.mode) e ∙ a.1)
 
-pub stands-phase : (kept : Lookahead WalkState SegmentItem) → ForEachReading kept (λ r. phase_of kept.state.mode ≡ phase_before r)
+pub stands-phase : (kept : Lookahead WalkState SegmentItem) → ForEachKept kept (λ r. phase_of kept.state.mode ≡ phase_before r)
 stands-phase kept r h = (alike-stands kept r h).1 ∙ ap (λ (v : ParserView). v.phase) (seen-boxes r)
 
-pub stands-held : (kept : Lookahead WalkState SegmentItem) → ForEachReading kept (λ r. kept.state.rest ≡ held_before r)
+pub stands-held : (kept : Lookahead WalkState SegmentItem) → ForEachKept kept (λ r. kept.state.rest ≡ held_before r)
 stands-held kept r h = (alike-stands kept r h).0 ∙ ap (λ (v : ParserView). v.held) (seen-boxes r)
 
 -- the items are those that the boxes tell
-pub stands-item : (kept : Lookahead WalkState SegmentItem) → ForEachReading kept (λ r. first_item segments kept ≡ slice_get (items_of_string r.before r.whole) r.taken)
+pub stands-item : (kept : Lookahead WalkState SegmentItem) → ForEachKept kept (λ r. first_item segments kept ≡ slice_get (items_of_string r.before r.whole) r.taken)
 stands-item kept r h = stands-first segments is_walk kept (start r.before r.whole) r.taken h ∙ ap (λ items. slice_get items r.taken) (items-boxes r.before r.whole)
 
-pub stands-ahead : (kept : Lookahead WalkState SegmentItem) (i : ℕ) → i < length kept.items → ForEachReading kept (λ r. slice_get kept.items i ≡ slice_get (items_of_string r.before r.whole) (r.taken + i))
+pub stands-ahead : (kept : Lookahead WalkState SegmentItem) (i : ℕ) → i < length kept.items → ForEachKept kept (λ r. slice_get kept.items i ≡ slice_get (items_of_string r.before r.whole) (r.taken + i))
 stands-ahead kept i l r h = stands-look segments is_walk kept (start r.before r.whole) r.taken i l h ∙ ap (λ items. slice_get items (r.taken + i)) (items-boxes r.before r.whole)
 
-pub stands-count : (kept : Lookahead WalkState SegmentItem) → ForEachReading kept (λ r. length kept.items ≡ ready_before r)
+pub stands-count : (kept : Lookahead WalkState SegmentItem) → ForEachKept kept (λ r. length kept.items ≡ ready_before r)
 stands-count kept r h = stands-ready segments is_walk kept (start r.before r.whole) r.taken h ∙ ready-boxes r
 
 -- ---- the presentation
@@ -181,18 +193,18 @@ last-by last s (Give item t) f p = λ e. f ∙ frame-latest s.last item e ∙ p
 last-lookahead : (s : WalkState) → (lookahead_from segments s).state.last ≡ s.last
 last-lookahead s = keeps segments is_walk (λ t. t.last ≡ s.last) (λ t p. last-by s.last t (segments.move t) (last-move t) p) s refl
 
-pub stands-latest : (kept : Lookahead WalkState SegmentItem) → ForEachReading kept (λ r. kept.state.last ≡ latest_after_all r.before (take r.taken (items_of_string r.before r.whole)))
-stands-latest kept r h = ap (λ (k : Lookahead WalkState SegmentItem). k.state.last) h.is ∙ last-lookahead (state_before r) ∙ state-latest r.taken (start r.before r.whole) ∙ ap (λ items. latest_after_all r.before (take r.taken items)) (items-boxes r.before r.whole)
+pub stands-latest : (kept : Lookahead WalkState SegmentItem) → ForEachKept kept (λ r. kept.state.last ≡ latest_after_all r.before (take r.taken (items_of_string r.before r.whole)))
+stands-latest kept r h = ap (λ (k : Lookahead WalkState SegmentItem). k.state.last) (stands-lookahead segments is_walk kept (start r.before r.whole) r.taken h) ∙ last-lookahead (state_before r) ∙ state-latest r.taken (start r.before r.whole) ∙ ap (λ items. latest_after_all r.before (take r.taken items)) (items-boxes r.before r.whole)
 
 -- ---- pieces
 
-pub stands-more : (kept : Lookahead WalkState SegmentItem) (c : List ℕ) → StandsAfter kept (with_bytes c) (kept_with segments kept c)
+pub stands-more : (kept : Lookahead WalkState SegmentItem) (c : List ℕ) → IsKeptAfter kept (with_bytes c) (kept_with segments kept c)
 stands-more kept c r h = stands-piece segments is_walk kept (start r.before r.whole) c r.taken h
 
-pub stands-pieces : (kept : Lookahead WalkState SegmentItem) (cs : List (List ℕ)) → StandsAfter kept (with_bytes (concat cs)) (kept_with_all segments kept cs)
+pub stands-pieces : (kept : Lookahead WalkState SegmentItem) (cs : List (List ℕ)) → IsKeptAfter kept (with_bytes (concat cs)) (kept_with_all segments kept cs)
 stands-pieces kept [] r h = rw (append-nil r.whole) h
 stands-pieces kept (c ∷ cs) r h =
-    subst (λ v. Stands (kept_with_all segments (kept_with segments kept c) cs) (record { before = r.before; whole = v; taken = r.taken })) (append_assoc r.whole c (concat cs)) (stands-pieces (kept_with segments kept c) cs (with_bytes c r) (stands-more kept c r h))
+    subst (λ v. IsKeptFor (kept_with_all segments (kept_with segments kept c) cs) (record { before = r.before; whole = v; taken = r.taken })) (append_assoc r.whole c (concat cs)) (stands-pieces (kept_with segments kept c) cs (with_bytes c r) (stands-more kept c r h))
 
 -- ---- a stream where nothing is offered
 
@@ -252,8 +264,8 @@ holds-start last tables h = record {
   few = omega arith;
 }
 
-pub stands-empty : (last : Option Presentation) (tables : Tables) → Stands (kept_of (snapshot_of last progress_at_start tables [])) (string_from last)
-stands-empty last tables = subst (λ k. Stands k (string_from last)) (start-still last) (stands-start segments is_walk (start last []))
+pub stands-empty : (last : Option Presentation) (tables : Tables) → IsKeptFor (kept_of (snapshot_of last progress_at_start tables [])) (string_from last)
+stands-empty last tables = subst (λ k. IsKeptFor k (string_from last)) (start-still last) (stands-start segments is_walk (start last []))
 
 -- ---- bytes are offered
 
@@ -308,12 +320,12 @@ accept-holds last r s tables input new fed o h rest e f g =
       few = h.room;
     }
 
-pub accept-stands : (last : Option Presentation) (r s : Progress) (tables : Tables) (input new : List (List ℕ)) (fed : ℕ) (o : Offered) (v : SegmentView) → segment_view (snapshot last r tables input) input fed (Some o) ≡ v → IsStreamWithOffer (snapshot last r tables input) input fed o → kept_of (snapshot last s tables new) ≡ kept_of (snapshot last o.progress tables input) → IfSome v.offered (λ bytes. StandsAfter v.kept (with_bytes bytes) (kept_of (snapshot last s tables new)))
+pub accept-stands : (last : Option Presentation) (r s : Progress) (tables : Tables) (input new : List (List ℕ)) (fed : ℕ) (o : Offered) (v : SegmentView) → segment_view (snapshot last r tables input) input fed (Some o) ≡ v → IsStreamWithOffer (snapshot last r tables input) input fed o → kept_of (snapshot last s tables new) ≡ kept_of (snapshot last o.progress tables input) → IfSome v.offered (λ bytes. IsKeptAfter v.kept (with_bytes bytes) (kept_of (snapshot last s tables new)))
 accept-stands last r s tables input new fed o v e h k =
     let c = pushed_last o.len input in
     let kept : Lookahead WalkState SegmentItem = kept_of (snapshot last r tables (pieces_without_last o.len input)) in
-    let f : StandsAfter kept (with_bytes c) (kept_of (snapshot last s tables new)) = λ r' q. subst (λ v. Stands v (with_bytes c r')) (sym (k ∙ h.found.same)) (stands-more kept c r' q) in
-    subst (λ (v : SegmentView). IfSome v.offered (λ bytes. StandsAfter v.kept (with_bytes bytes) (kept_of (snapshot last s tables new)))) e f
+    let f : IsKeptAfter kept (with_bytes c) (kept_of (snapshot last s tables new)) = λ r' q. subst (λ v. IsKeptFor v (with_bytes c r')) (sym (k ∙ h.found.same)) (stands-more kept c r' q) in
+    subst (λ (v : SegmentView). IfSome v.offered (λ bytes. IsKeptAfter v.kept (with_bytes bytes) (kept_of (snapshot last s tables new)))) e f
 
 pub accept-pieces : (last : Option Presentation) (r : Progress) (tables : Tables) (input new : List (List ℕ)) (fed from : ℕ) (o : Offered) (v : SegmentView) → segment_view (snapshot last r tables input) input fed (Some o) ≡ v → IsStreamWithOffer (snapshot last r tables input) input fed o → from ≡ 0 → new ≡ pieces_without_first o.progress.from input → IfSome v.offered (λ bytes. new ≡ last_bytes (length (drop from (concat new))) (pieces_with bytes v.pieces))
 accept-pieces last r tables input new fed from o v e h z g =
@@ -347,16 +359,16 @@ next-holds (Ok x) last new_last r new_r tables new_tables input new fed h rest e
 }
 next-holds (Err e) last new_last r new_r tables new_tables input new fed h rest emptied readable total pieces e_last e_r e_tables e_input = rw (e_last, e_r, e_tables, e_input) h
 
-pub next-item : {E : Type 0} (result : Result (Next StreamFault) E) (last : Option Presentation) (r : Progress) (tables : Tables) (input : List (List ℕ)) (fed : ℕ) (v : SegmentView) → segment_view (snapshot last r tables input) input fed None ≡ v → IfOk result (λ x. answer_item x ≡ first_item segments (kept_of (snapshot last r tables input))) → ForEachReading v.kept (λ reading. IfOk result (λ x. answer_item x ≡ slice_get (items_of_string reading.before reading.whole) reading.taken))
+pub next-item : {E : Type 0} (result : Result (Next StreamFault) E) (last : Option Presentation) (r : Progress) (tables : Tables) (input : List (List ℕ)) (fed : ℕ) (v : SegmentView) → segment_view (snapshot last r tables input) input fed None ≡ v → IfOk result (λ x. answer_item x ≡ first_item segments (kept_of (snapshot last r tables input))) → ForEachKept v.kept (λ reading. IfOk result (λ x. answer_item x ≡ slice_get (items_of_string reading.before reading.whole) reading.taken))
 next-item (Ok x) last r tables input fed v e g reading st = g ∙ ap (λ (w : SegmentView). first_item segments w.kept) e ∙ stands-item v.kept reading st
 next-item (Err x) last r tables input fed v e g reading st = tt
 
-pub next-stands : {E : Type 0} (result : Result (Next StreamFault) E) (last new_last : Option Presentation) (r new_r : Progress) (tables new_tables : Tables) (input new : List (List ℕ)) (fed : ℕ) (v : SegmentView) → segment_view (snapshot last r tables input) input fed None ≡ v → IfOk result (λ x. answer_item x ≡ first_item segments (kept_of (snapshot last r tables input))) → OnOk result (kept_of (snapshot new_last new_r new_tables new) ≡ after_first segments (kept_of (snapshot last r tables input))) → IfOk result (λ x. StandsAfter v.kept (after_answer (answer_item x)) (kept_of (snapshot new_last new_r new_tables new)))
+pub next-stands : {E : Type 0} (result : Result (Next StreamFault) E) (last new_last : Option Presentation) (r new_r : Progress) (tables new_tables : Tables) (input new : List (List ℕ)) (fed : ℕ) (v : SegmentView) → segment_view (snapshot last r tables input) input fed None ≡ v → IfOk result (λ x. answer_item x ≡ first_item segments (kept_of (snapshot last r tables input))) → OnOk result (kept_of (snapshot new_last new_r new_tables new) ≡ after_first segments (kept_of (snapshot last r tables input))) → IfOk result (λ x. IsKeptAfter v.kept (after_answer (answer_item x)) (kept_of (snapshot new_last new_r new_tables new)))
 next-stands (Ok x) last new_last r new_r tables new_tables input new fed v e g k = λ reading st.
     let f : answer_item x ≡ first_item segments v.kept = g ∙ ap (λ (w : SegmentView). first_item segments w.kept) e in
     let q : kept_of (snapshot new_last new_r new_tables new) ≡ after_first segments v.kept = k ∙ ap (λ (w : SegmentView). after_first segments w.kept) e in
-    let a : Stands (after_first segments v.kept) (after_answer (first_item segments v.kept) reading) = stands-after segments is_walk v.kept (start reading.before reading.whole) reading.taken st in
-    subst (λ w. Stands w (after_answer (answer_item x) reading)) (sym q) (subst (λ o. Stands (after_first segments v.kept) (after_answer o reading)) (sym f) a)
+    let a : IsKeptFor (after_first segments v.kept) (after_answer (first_item segments v.kept) reading) = stands-after segments is_walk v.kept (start reading.before reading.whole) reading.taken st in
+    subst (λ w. IsKeptFor w (after_answer (answer_item x) reading)) (sym q) (subst (λ o. IsKeptFor (after_first segments v.kept) (after_answer o reading)) (sym f) a)
 next-stands (Err x) last new_last r new_r tables new_tables input new fed v e g k = tt
 
 pub next-dry : {E : Type 0} (result : Result (Next StreamFault) E) (last new_last : Option Presentation) (r new_r : Progress) (tables new_tables : Tables) (input new : List (List ℕ)) (fed : ℕ) (v : SegmentView) → IsStreamAtRest (snapshot last r tables input) input fed → segment_view (snapshot last r tables input) input fed None ≡ v → IfOk result (λ x. answer_item x ≡ first_item segments (kept_of (snapshot last r tables input))) → OnOk result (kept_of (snapshot new_last new_r new_tables new) ≡ after_first segments (kept_of (snapshot last r tables input))) → OnOk result (IsStillAtFront (snapshot new_last new_r new_tables new)) → OnOk result (new ≡ last_bytes (length (concat new)) input) → IfOk result (λ x. answer_item x ≡ None → segment_view (snapshot new_last new_r new_tables new) new fed None ≡ v)
@@ -371,3 +383,66 @@ next-dry (Ok x) last new_last r new_r tables new_tables input new fed v h e g k 
     let p : new ≡ input = dry-pieces input new h.none_empty bytes pieces in
     let view : Lookahead WalkState SegmentItem → List (List ℕ) → SegmentView = λ q ps. record { kept = q; pieces = ps; fed = fed; offered = None } in
     ap (λ q. view q new) same ∙ ap (view old_kept) p ∙ e
+
+-- ---- the stream and its readings
+
+-- what is kept for a reading, and the length of its string
+pub stands-accepted : (v t : SegmentView) (o : Option (List ℕ)) → IfSome o (λ bytes. IsKeptAfter v.kept (with_bytes bytes) t.kept) → IfSome o (λ bytes. t.fed ≡ v.fed + length bytes) → IfSome o (λ bytes. StandsAfter v (with_bytes bytes) t)
+stands-accepted v t None f g = tt
+stands-accepted v t (Some bytes) f g = λ r h. record { kept = f r h.kept; fed = omega (arith, g, h.fed, length-append r.whole bytes) }
+
+pub accept-fed : (s : ParserSnapshot) (input : List (List ℕ)) (fed : ℕ) (o : Offered) (v : SegmentView) → segment_view s input fed (Some o) ≡ v → o.len ≡ length (pushed_last o.len input) → IfSome v.offered (λ bytes. fed + o.len ≡ v.fed + length bytes)
+accept-fed s input fed o v e l =
+    let g : fed + o.len ≡ fed + length (pushed_last o.len input) = ap (λ n. fed + n) l in
+    subst (λ (v : SegmentView). IfSome v.offered (λ bytes. fed + o.len ≡ v.fed + length bytes)) e g
+
+-- a reading stays where bytes are offered or let go
+pub reading-same : (s t : SegmentView) → t.kept ≡ s.kept → t.fed ≡ s.fed → HasReading s → HasReading t
+reading-same s t e f h = record { reading = h.reading; stands = record { kept = subst (λ k. IsKeptFor k h.reading) (sym e) h.stands.kept; fed = f ∙ h.stands.fed } }
+
+-- behind bytes that were offered
+pub reading-accepted : (v t : SegmentView) (o : Option (List ℕ)) (bytes : List ℕ) → o ≡ Some bytes → IfSome o (λ bytes. StandsAfter v (with_bytes bytes) t) → HasReading v → HasReading t
+reading-accepted v t None bytes e f h = absurd (cc)
+reading-accepted v t (Some c) bytes e f h = record { reading = with_bytes c h.reading; stands = f h.reading h.stands }
+
+-- behind the next item
+pub stands-next : {E : Type 0} (result : Result (Next StreamFault) E) (v t : SegmentView) → t.fed ≡ v.fed → IfOk result (λ x. IsKeptAfter v.kept (after_answer (answer_item x)) t.kept) → IfOk result (λ x. StandsAfter v (after_answer (answer_item x)) t)
+stands-next (Ok x) v t e f = λ r h. record { kept = f r h.kept; fed = e ∙ h.fed }
+stands-next (Err e) v t q f = tt
+
+pub reading-next : {E : Type 0} (result : Result (Next StreamFault) E) (v t : SegmentView) → IfOk result (λ x. StandsAfter v (after_answer (answer_item x)) t) → OnErr result (t ≡ v) → HasReading v → HasReading t
+reading-next (Ok x) v t f e h = record { reading = after_answer (answer_item x) h.reading; stands = f h.reading h.stands }
+reading-next (Err x) v t f e h = subst HasReading (sym e) h
+
+-- of the empty string
+pub reading-empty : (t : SegmentView) (last : Option Presentation) → Stands t (string_from last) → HasReading t
+reading-empty t last h = record { reading = string_from last; stands = h }
+
+-- of the empty string, whatever is offered
+pub stands-empty-view : (last : Option Presentation) (tables : Tables) → Stands (segment_view (snapshot_of last progress_at_start tables []) [] 0 None) (string_from last)
+stands-empty-view last tables = record { kept = stands-empty last tables; fed = refl }
+
+pub holds-empty : (last : Option Presentation) (tables : Tables) → IsLast last → IsStanding (snapshot last progress_at_start tables []) [] 0 None
+holds-empty last tables h = record { fields = holds-start last tables h; stands = record { reading = string_from last; stands = stands-empty-view last tables } }
+
+-- where the next item could not be given, all is as before
+pub next-same : {E : Type 0} (result : Result (Next StreamFault) E) (last new_last : Option Presentation) (r new_r : Progress) (tables new_tables : Tables) (input new : List (List ℕ)) (fed : ℕ) (v : SegmentView) → segment_view (snapshot last r tables input) input fed None ≡ v → OnErr result (new_last ≡ last) → OnErr result (new_r ≡ r) → OnErr result (new_tables ≡ tables) → OnErr result (new ≡ input) → OnErr result (segment_view (snapshot new_last new_r new_tables new) new fed None ≡ v)
+next-same (Ok x) last new_last r new_r tables new_tables input new fed v e e_last e_r e_tables e_input = tt
+next-same (Err x) last new_last r new_r tables new_tables input new fed v e e_last e_r e_tables e_input = rw (e_last, e_r, e_tables, e_input) e
+
+-- ---- presentations
+
+timed-segment : (b : List ℕ) (item : SegmentItem) → IsItemOfString b item → IsTimed item
+timed-segment b (InitItem p at) h = (presentation-is Fragmented (box_at b at) p h).timed
+timed-segment b (FrameItem f at) h = tt
+timed-segment b SegmentEnd h = tt
+timed-segment b (FaultItem f at) h = tt
+
+pub timed-of : (r : StringReading) (i : ℕ) (o : Option SegmentItem) → o ≡ slice_get (items_of_string r.before r.whole) i → IfSome o IsTimed
+timed-of r i None e = tt
+timed-of r i (Some item) e = timed-segment r.whole item (item-place r.before r.whole i item (sym e))
+
+-- an initialization segment that a stream shows says how long its media last
+pub timed-answer : {E : Type 0} (result : Result (Next StreamFault) E) (v : SegmentView) (at : ℕ → ℕ) → HasReading v → ForEachReading v (λ r. IfOk result (λ x. answer_item x ≡ slice_get (items_of_string r.before r.whole) (at r.taken))) → IfOk result (λ x. IfSome (answer_item x) IsTimed)
+timed-answer (Ok x) v at h f = timed-of h.reading (at h.reading.taken) (answer_item x) (f h.reading h.stands)
+timed-answer (Err e) v at h f = tt

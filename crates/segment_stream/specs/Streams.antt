@@ -19,17 +19,26 @@ pub record SegmentView : Type 0 where
   pub fed : ℕ
   pub offered : Option (List ℕ)
 
--- What is kept stands for a reading of a string. Many readings may belong to one stream.
-abbrev pub Stands : Lookahead WalkState SegmentItem → StringReading → Type 0
-Stands kept r = walk.Stands segments kept (start r.before r.whole) r.taken
+-- what is kept is that of a reading of a string, just before its next item
+abbrev pub IsKeptFor : Lookahead WalkState SegmentItem → StringReading → Type 0
+IsKeptFor kept r = walk.Stands segments kept (start r.before r.whole) r.taken
+
+-- The stream stands for a reading: what was fed is the whole string. Many readings may belong to one stream.
+pub record Stands (s : SegmentView) (r : StringReading) : Type 0 where
+  pub kept : IsKeptFor s.kept r
+  pub fed : s.fed ≡ length r.whole
+
+-- it stands for some reading
+pub record HasReading (s : SegmentView) : Type 0 where
+  pub reading : StringReading
+  pub stands : Stands s reading
 
 -- for each reading that it stands for
-abbrev pub ForEachReading : Lookahead WalkState SegmentItem → (StringReading → Type 0) → Type 0
-ForEachReading kept p = (r : StringReading) → Stands kept r → p r
+abbrev pub ForEachReading : SegmentView → (StringReading → Type 0) → Type 0
+ForEachReading s p = (r : StringReading) → Stands s r → p r
 
--- what is kept then stands for each reading that this stood for, after a change of it
-abbrev pub StandsAfter : Lookahead WalkState SegmentItem → (StringReading → StringReading)
-    → Lookahead WalkState SegmentItem → Type 0
+-- it stands for each reading that it stood for, after a change of it
+abbrev pub StandsAfter : SegmentView → (StringReading → StringReading) → SegmentView → Type 0
 StandsAfter old change new = ForEachReading old (λ r. Stands new (change r))
 
 -- ---- what the fields are to this
@@ -83,3 +92,9 @@ pub record IsStreamWithOffer (s : ParserSnapshot) (input : List (List ℕ)) (fed
 abbrev pub IsSegmentStream : ParserSnapshot → List (List ℕ) → ℕ → Option Offered → Type 0
 IsSegmentStream s input fed None = IsStreamAtRest s input fed
 IsSegmentStream s input fed (Some o) = IsStreamWithOffer s input fed o
+
+-- what always holds of the fields, and that the stream stands for some reading
+pub record IsStanding (s : ParserSnapshot) (input : List (List ℕ)) (fed : ℕ) (o : Option Offered)
+    : Type 0 where
+  pub fields : IsSegmentStream s input fed o
+  pub stands : HasReading (segment_view s input fed o)

@@ -5,7 +5,7 @@ ghost use Rattle.segment_walk.specs.declared.kinds.DataRange.{DataRange};
 ghost use Rattle.bmff_fragment.specs.declared.slot.Slot.{Slot};
 ghost use Rattle.segment_walk.specs.Ranges.{mode_of};
 ghost use Rattle.segment_walk.specs.Segments.{items_of_string, next_item, item_ahead, phase_before, ready_before, held_before};
-ghost use Rattle.parser_loop.specs.Items.{latest_after_any, answer_item};
+ghost use Rattle.parser_loop.specs.Items.{IsTimed, latest_after_any, answer_item};
 ghost use Rattle.parser_loop.specs.StringReadings.{after_answer, after_reset, string_from, with_bytes};
 ghost use Rattle.segment_walk.specs.Strings.{phase_of};
 ghost use Rattle.segment_stream.specs.Kept.{progress_at_start};
@@ -45,7 +45,7 @@ pub struct Stream {
 }
 
 impl Model for Stream {
-    ghost use Rattle.segment_stream.specs.Streams.{SegmentView, segment_view, IsSegmentStream};
+    ghost use Rattle.segment_stream.specs.Streams.{SegmentView, segment_view, IsStanding};
     ghost use Rattle.segment_stream.specs.Kept.{snapshot};
 
     ghost Value = { SegmentView };
@@ -53,7 +53,7 @@ impl Model for Stream {
     ghost view = { λ s. segment_view (snapshot s.last s.progress s.tables s.input) s.input s.fed
         s.offered };
 
-    ghost invariant = { λ s. IsSegmentStream (snapshot s.last s.progress s.tables s.input) s.input
+    ghost invariant = { λ s. IsStanding (snapshot s.last s.progress s.tables s.input) s.input
         s.fed s.offered };
 }
 
@@ -98,11 +98,11 @@ fn phase_in(mode: ParserMode) -> Phase
 
 impl Stream {
     ghost use Rattle.segment_stream.specs.Kept.{last_bytes};
-    ghost use Rattle.segment_stream.specs.Streams.{ForEachReading, Stands, StandsAfter};
+    ghost use Rattle.segment_stream.specs.Streams.{ForEachReading, HasReading, Stands, StandsAfter};
 
     /// A stream of the empty string, with no presentation from before.
     pub fn new(alloc: Global) -> Stream
-        ensures stands { Stands result.kept (string_from None) }
+        ensures stands { Stands result (string_from None) }
         ensures last { result.kept.state.last ≡ None }
         ensures pieces { result.pieces ≡ [] }
         ensures fed { result.fed ≡ 0 }
@@ -127,7 +127,7 @@ impl Stream {
     pub fn input(&self) -> &Chunks
         requires { self.now.offered ≡ None }
         ensures pieces { result.now ≡ self.now.pieces }
-        ensures held { ForEachReading self.now.kept (λ r. concat result.now ≡ held_before r) }
+        ensures held { ForEachReading self.now (λ r. concat result.now ≡ held_before r) }
     {
         &self.input
     }
@@ -177,7 +177,7 @@ impl Stream {
     pub fn accept(&mut self)
         requires { IsSome self.old.offered }
         ensures stands { IfSome self.old.offered
-            (λ bytes. StandsAfter self.old.kept (with_bytes bytes) self.new.kept) }
+            (λ bytes. StandsAfter self.old (with_bytes bytes) self.new) }
         ensures last { self.new.kept.state.last ≡ self.old.kept.state.last }
         ensures pieces { IfSome self.old.offered (λ bytes. self.new.pieces
             ≡ last_bytes (length self.new.kept.state.rest) (pieces_with bytes self.old.pieces)) }
@@ -215,7 +215,7 @@ impl Stream {
         requires none_offered { self.old.offered ≡ None }
         requires countable { self.old.fed + length bytes.now < 2 ^ 62 }
         ensures stands { OnOk result
-            (StandsAfter self.old.kept (with_bytes bytes.now) self.new.kept) }
+            (StandsAfter self.old (with_bytes bytes.now) self.new) }
         ensures last { OnOk result (self.new.kept.state.last ≡ self.old.kept.state.last) }
         ensures pieces { OnOk result (self.new.pieces
             ≡ last_bytes (length self.new.kept.state.rest)
@@ -234,8 +234,9 @@ impl Stream {
     pub fn look(&self, i: usize) -> Result<SegmentNext, OutOfMemory>
         requires none_offered { self.now.offered ≡ None }
         requires ready { (i ≡ 0) ⊎ (i < length self.now.kept.items) }
-        ensures { ForEachReading self.now.kept
+        ensures item { ForEachReading self.now
             (λ r. IfOk result (λ next. answer_item next ≡ item_ahead r i)) }
+        ensures timed { IfOk result (λ next. IfSome (answer_item next) IsTimed) }
     {
         if i < self.progress.ready {
             return look_frame(&self.progress, &self.tables, &self.input, i);
@@ -254,10 +255,10 @@ impl Stream {
     /// string gives none until the next reset. An `Err` changes nothing.
     pub fn next(&mut self) -> Result<SegmentNext, OutOfMemory>
         requires { self.old.offered ≡ None }
-        ensures item { ForEachReading self.old.kept
+        ensures item { ForEachReading self.old
             (λ r. IfOk result (λ next. answer_item next ≡ next_item r)) }
         ensures stands { IfOk result
-            (λ next. StandsAfter self.old.kept (after_answer (answer_item next)) self.new.kept) }
+            (λ next. StandsAfter self.old (after_answer (answer_item next)) self.new) }
         ensures last { IfOk result (λ next.
             self.new.kept.state.last ≡ latest_after_any self.old.kept.state.last
             (answer_item next)) }
@@ -267,6 +268,7 @@ impl Stream {
         ensures none_offered { self.new.offered ≡ None }
         ensures dry { IfOk result (λ next. answer_item next ≡ None → self.new ≡ self.old) }
         ensures err { OnErr result (self.new ≡ self.old) }
+        ensures timed { IfOk result (λ next. IfSome (answer_item next) IsTimed) }
     {
         next_on(
             self.alloc,
@@ -277,11 +279,19 @@ impl Stream {
         )
     }
 
+    /// Hands out that the stream stands for some string; it does nothing.
+    pub fn stands(&self)
+        ensures { HasReading self.now }
+    {
+        // The proof reads off this what always holds of the fields.
+        let _fed = &self.fed;
+    }
+
     /// Where the parser is before the next item, or at the end of the string where there is none.
     pub fn phase(&self) -> Phase
         requires { self.now.offered ≡ None }
         ensures value { result ≡ phase_of self.now.kept.state.mode }
-        ensures phase { ForEachReading self.now.kept (λ r. result ≡ phase_before r) }
+        ensures phase { ForEachReading self.now (λ r. result ≡ phase_before r) }
     {
         phase_in(self.progress.position.mode)
     }
@@ -291,7 +301,7 @@ impl Stream {
     pub fn ready_frames(&self) -> usize
         requires { self.now.offered ≡ None }
         ensures value { result ≡ length self.now.kept.items }
-        ensures ready { ForEachReading self.now.kept (λ r. result ≡ ready_before r) }
+        ensures ready { ForEachReading self.now (λ r. result ≡ ready_before r) }
         ensures few { result ≤ 2 ^ 20 }
     {
         self.progress.ready
@@ -301,7 +311,7 @@ impl Stream {
     pub fn held_len(&self) -> usize
         requires { self.now.offered ≡ None }
         ensures value { result ≡ length self.now.kept.state.rest }
-        ensures held { ForEachReading self.now.kept (λ r. result ≡ length (held_before r)) }
+        ensures held { ForEachReading self.now (λ r. result ≡ length (held_before r)) }
     {
         self.input.len()
     }
@@ -310,9 +320,9 @@ impl Stream {
     /// that was given stays (Media Source Extensions, 3.5.2, reset parser state).
     pub fn reset(&mut self)
         requires { self.old.offered ≡ None }
-        ensures stands { Stands self.new.kept (string_from self.old.kept.state.last) }
-        ensures latest { ForEachReading self.old.kept
-            (λ r. Stands self.new.kept (after_reset (items_of_string r.before r.whole) r)) }
+        ensures stands { Stands self.new (string_from self.old.kept.state.last) }
+        ensures latest { ForEachReading self.old
+            (λ r. Stands self.new (after_reset (items_of_string r.before r.whole) r)) }
         ensures last { self.new.kept.state.last ≡ self.old.kept.state.last }
         ensures pieces { self.new.pieces ≡ [] }
         ensures fed { self.new.fed ≡ 0 }
@@ -325,7 +335,7 @@ impl Stream {
     /// As `reset`, and the presentation is dropped too.
     pub fn forget(&mut self)
         requires { self.old.offered ≡ None }
-        ensures stands { Stands self.new.kept (string_from None) }
+        ensures stands { Stands self.new (string_from None) }
         ensures last { self.new.kept.state.last ≡ None }
         ensures pieces { self.new.pieces ≡ [] }
         ensures fed { self.new.fed ≡ 0 }

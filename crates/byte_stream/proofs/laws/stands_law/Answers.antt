@@ -1,4 +1,4 @@
-use Rattle.byte_stream.proofs.Standing.{given-is, ready-is, phase-is, held-is, latest-is}
+use Rattle.byte_stream.proofs.KeptStreams.{given-is, ready-is, phase-is, held-is, latest-is}
 use Rattle.byte_stream.proofs.laws.stands_law.Goals as goal
 
 pub returns : goal.returns

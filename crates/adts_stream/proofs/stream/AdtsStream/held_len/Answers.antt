@@ -8,4 +8,4 @@ pub returns-clause-held : goal.returns-clause-held
 returns-clause-held c = λ r st.
     let s = c.self.inside in
     let h = idle s.last s.position (concat s.input) s.fed s.offered c.args.self.now c.self.view_is c.requires in
-    c.len.ensures ∙ ap (λ (v : AdtsView). length v.state.rest) h.0 ∙ ap length (stands-held c.args.self.now.state r st)
+    c.len.ensures ∙ ap (λ (v : AdtsView). length v.state.rest) h.0 ∙ ap length (stands-held c.args.self.now.state r st.kept)

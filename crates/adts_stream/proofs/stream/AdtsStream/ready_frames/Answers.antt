@@ -15,4 +15,4 @@ pub returns-clause-ready : goal.returns-clause-ready
 returns-clause-ready c = λ r st.
     let s = c.self.inside in
     let h = idle s.last s.position (concat s.input) s.fed s.offered c.args.self.now c.self.view_is c.requires in
-    c.ready.ensures.ready s.last (concat s.input) (sym c.len.ensures) ∙ ap (λ (v : AdtsView). ready_of v.state) h.0 ∙ stands-ready c.args.self.now.state r st
+    c.ready.ensures.ready s.last (concat s.input) (sym c.len.ensures) ∙ ap (λ (v : AdtsView). ready_of v.state) h.0 ∙ stands-ready c.args.self.now.state r st.kept

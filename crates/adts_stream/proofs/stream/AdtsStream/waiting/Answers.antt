@@ -14,4 +14,4 @@ pub returns-clause-phase : goal.returns-clause-phase
 returns-clause-phase c =
     let s = c.self.inside in
     let h = idle s.last s.position (concat s.input) s.fed s.offered c.args.self.now c.self.view_is c.requires in
-    waits c.is_waiting.result c.args.self.now.state (waits-kept c.is_waiting.result s.position.point c.args.self.now.state (ap (λ (v : AdtsView). v.state.point) h.0) c.is_waiting.ensures)
+    λ r st. waits c.is_waiting.result c.args.self.now.state (waits-kept c.is_waiting.result s.position.point c.args.self.now.state (ap (λ (v : AdtsView). v.state.point) h.0) c.is_waiting.ensures) r st.kept

@@ -1,4 +1,4 @@
-use Rattle.byte_stream.proofs.Parsing.{accept-segments, accept-frames}
+use Rattle.byte_stream.proofs.ParserCalls.{accept-segments, accept-frames}
 use Rattle.byte_stream.proofs.parser.Parser.accept.Goals as goal
 
 pub returns-in-Segments-clause-stands : goal.returns-in-Segments-clause-stands

@@ -1,6 +1,6 @@
 use Rattle.parser_loop.specs.Items.{answer_item}
 use Rattle.byte_stream.specs.declared.next.ByteFault.TheVariants.{Segments, Frames}
-use Rattle.byte_stream.proofs.Parsing.{seen-segments, seen-frames, behind-segments, behind-frames, dry-segments, dry-frames, latest-segments-next, latest-frames-next}
+use Rattle.byte_stream.proofs.ParserCalls.{seen-segments, seen-frames, behind-segments, behind-frames, dry-segments, dry-frames, latest-segments-next, latest-frames-next}
 use Rattle.byte_stream.proofs.parser.Parser.next.Goals as goal
 
 pub returns-in_ok-next-in-Segments-clause-item : goal.returns-in_ok-next-in-Segments-clause-item

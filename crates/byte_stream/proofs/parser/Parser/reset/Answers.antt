@@ -1,4 +1,4 @@
-use Rattle.byte_stream.proofs.Parsing.{reset-segments, reset-frames}
+use Rattle.byte_stream.proofs.ParserCalls.{reset-segments, reset-frames}
 use Rattle.byte_stream.proofs.parser.Parser.reset.Goals as goal
 
 pub returns-in-Segments-clause-stands : goal.returns-in-Segments-clause-stands

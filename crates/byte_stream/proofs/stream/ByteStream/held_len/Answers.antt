@@ -1,6 +1,6 @@
 use Rattle.std.proofs.Common.{length, ap, ◌∙◌}
 use Rattle.byte_stream.specs.Streams.{StreamView, held_of}
-use Rattle.byte_stream.proofs.Standing.{held-is}
+use Rattle.byte_stream.proofs.KeptStreams.{held-is}
 use Rattle.byte_stream.proofs.stream.ByteStream.held_len.Goals as goal
 
 pub returns-clause-held : goal.returns-clause-held

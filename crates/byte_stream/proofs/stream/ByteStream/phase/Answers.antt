@@ -1,6 +1,6 @@
 use Rattle.std.proofs.Common.{ap, ◌∙◌}
 use Rattle.byte_stream.specs.Streams.{StreamView, phase_of}
-use Rattle.byte_stream.proofs.Standing.{phase-is}
+use Rattle.byte_stream.proofs.KeptStreams.{phase-is}
 use Rattle.byte_stream.proofs.stream.ByteStream.phase.Goals as goal
 
 pub returns-clause-phase : goal.returns-clause-phase

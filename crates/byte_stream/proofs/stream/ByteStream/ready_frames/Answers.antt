@@ -1,6 +1,6 @@
 use Rattle.std.proofs.Common.{ap, ◌∙◌}
 use Rattle.byte_stream.specs.Streams.{StreamView, ready_of}
-use Rattle.byte_stream.proofs.Standing.{ready-is}
+use Rattle.byte_stream.proofs.KeptStreams.{ready-is}
 use Rattle.byte_stream.proofs.stream.ByteStream.ready_frames.Goals as goal
 
 pub returns-clause-ready : goal.returns-clause-ready

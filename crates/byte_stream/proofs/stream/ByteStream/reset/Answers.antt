@@ -1,5 +1,5 @@
 use Rattle.byte_stream.specs.Streams.{stream_view}
-use Rattle.byte_stream.proofs.Resetting.{from-latest}
+use Rattle.byte_stream.proofs.Resets.{from-latest}
 use Rattle.byte_stream.proofs.stream.ByteStream.reset.Goals as goal
 
 pub returns-clause-stands_from : goal.returns-clause-stands_from
