@@ -4,3 +4,4 @@ pub mod PieceLaws
 pub mod StepLaws
 pub mod TimeLaws
 pub mod SegmentLaws
+pub mod RunEnds

@@ -49,7 +49,8 @@ short_from len position kind run (s ∷ ss) h k =
     by true e a b = (h, a)
     by false e a b = b (one_more len position kind run s h k.0 e)
 
-short_runs : (len : ℕ) (kind : Kind) (ss : List Sample) → AllByRecursion (IsSampleIn len) ss → AllByRecursion (IsShortRun len) (runs_of kind ss)
+-- no run has too many samples or bytes
+pub short_runs : (len : ℕ) (kind : Kind) (ss : List Sample) → AllByRecursion (IsSampleIn len) ss → AllByRecursion (IsShortRun len) (runs_of kind ss)
 short_runs len kind [] h = tt
 short_runs len kind (s ∷ ss) h = short_from len 1 kind (s ∷ []) ss (one_sample len s h.0) h.1
 

@@ -1,13 +1,15 @@
--- Laws of the segments, run by run.
-use Rattle.std.proofs.Common.{◌≡◌, ℕ, suc, ◌+◌, ◌<◌, ◌≤◌, ◌^◌, List, [], ◌∷◌, ◌++◌, length, get_or, drop, map, refl, ap, sym, ◌∙◌, arith, subst, append_assoc, append-nil}
+-- Laws of the pieces, one by one.
+use Rattle.std.proofs.Common.{◌≡◌, ℕ, zero, suc, ◌+◌, ◌<◌, ◌≤◌, ◌^◌, List, [], ◌∷◌, ◌++◌, length, get_or, slice_get, take, map, Some, refl, ap, sym, ◌∙◌, arith, subst}
 use Rattle.std.specs.List.{AllByRecursion}
-use Rattle.std.proofs.lemmas.List.{at_drop_more, at_drop_all}
+use Rattle.std.specs.Prelude.{IfOk, Result, Ok, Err}
+use Rattle.std.proofs.lemmas.List.{take_more}
+use Rattle.std.proofs.lemmas.Option.{slice_get_within, get_or_from_slice_get}
 use Rattle.bmff_write.specs.Fragment.{segment_bytes}
 use Rattle.sample_tables.specs.declared.media_track.MediaTrack.{MediaTrack}
 use Rattle.sample_tables.specs.Facts.{IsFileTrack, AreFileTracks}
 use Rattle.remux.specs.declared.runs.RunOfTrack.{RunOfTrack}
-use Rattle.remux.specs.Runs.{IsShortIn, run_value, runs_in_order}
-use Rattle.remux.specs.Pieces.{traf_out, segments_from}
+use Rattle.remux.specs.Runs.{IsShortIn, SampleRun, run_value, runs_in_order}
+use Rattle.remux.specs.Pieces.{traf_out, init_segment_of, segments_from, pieces_of}
 use Rattle.remux.proofs.RunLaws.{IsShortView, ordered_short, length_ordered}
 
 length_map : {X Y : Type 0} (f : X → Y) (xs : List X) → length (map f xs) ≡ length xs
@@ -28,14 +30,54 @@ short-all len tracks runs e h =
 pub few-runs : (len : ℕ) (tracks : List MediaTrack) (runs : List RunOfTrack) → map run_value runs ≡ runs_in_order tracks → AreFileTracks len tracks → length runs ≤ 2 ^ 22
 few-runs len tracks runs e h = let samples = h.samples in omega (arith, samples, length_map run_value runs, ap length e, length_ordered tracks)
 
--- one segment more
-pub segments-next : (file : List ℕ) (number i : ℕ) (runs : List RunOfTrack) (d : RunOfTrack) (pieces next all : List (List ℕ)) → i < length runs → next ≡ pieces ++ segment_bytes number (traf_out file (run_value (get_or runs i d)) ∷ []) ∷ []
-    → pieces ++ segments_from file number (map run_value (drop i runs)) ≡ all → next ++ segments_from file (number + 1) (map run_value (drop (i + 1) runs)) ≡ all
-segments-next file number i runs d pieces next all h n e =
-    let piece = segment_bytes number (traf_out file (run_value (get_or runs i d)) ∷ []) in
-    let rest = segments_from file (number + 1) (map run_value (drop (i + 1) runs)) in
-    ap (λ ps. ps ++ rest) n ∙ (append_assoc pieces (piece ∷ []) rest ∙ (ap (λ ps. pieces ++ ps) (sym (at_drop_more (λ rs. segments_from file number (map run_value rs)) runs i d h)) ∙ e))
+-- ---- the pieces
 
-pub segments-end : (file : List ℕ) (number i : ℕ) (runs : List RunOfTrack) (pieces all : List (List ℕ)) → length runs ≤ i → pieces ++ segments_from file number (map run_value (drop i runs)) ≡ all → pieces ≡ all
-segments-end file number i runs pieces all h e =
-    sym (append-nil pieces) ∙ (ap (λ ps. pieces ++ ps) (sym (at_drop_all (λ rs. segments_from file number (map run_value rs)) runs i h)) ∙ e)
+length_segments : (file : List ℕ) (number : ℕ) (runs : List SampleRun) → length (segments_from file number runs) ≡ length runs
+length_segments file number [] = refl
+length_segments file number (r ∷ rs) = ap suc (length_segments file (number + 1) rs)
+
+-- one more than runs
+pub count-pieces : (file : List ℕ) (tracks : List MediaTrack) (runs : List RunOfTrack) → map run_value runs ≡ runs_in_order tracks → length (pieces_of file tracks) ≡ length runs + 1
+unfolding pieces_of
+count-pieces file tracks runs e =
+    let segments = length_segments file 1 (runs_in_order tracks) in
+    omega (arith, segments, length_map run_value runs, ap length e)
+
+segment-at : (file : List ℕ) (number i : ℕ) (runs : List RunOfTrack) (d : RunOfTrack) → i < length runs → slice_get (segments_from file number (map run_value runs)) i ≡ Some (segment_bytes (number + i) (traf_out file (run_value (get_or runs i d)) ∷ []))
+segment-at file number i [] d h = absurd (omega arith)
+segment-at file number zero (r ∷ rs) d h =
+    let n : number ≡ number + 0 = omega arith in
+    ap (λ m. Some (segment_bytes m (traf_out file (run_value r) ∷ []))) n
+segment-at file number (suc i) (r ∷ rs) d h =
+    let n : (number + 1) + i ≡ number + suc i = omega arith in
+    segment-at file (number + 1) i rs d (omega arith) ∙ ap (λ m. Some (segment_bytes m (traf_out file (run_value (get_or rs i d)) ∷ []))) n
+
+-- the first
+pub first-piece : (file : List ℕ) (tracks : List MediaTrack) (i : ℕ) (piece : List ℕ) → i ≡ 0 → piece ≡ init_segment_of tracks → slice_get (pieces_of file tracks) i ≡ Some piece
+unfolding pieces_of
+first-piece file tracks zero piece z e = ap Some (sym e)
+first-piece file tracks (suc i) piece z e = absurd (omega (arith, z))
+
+-- and that of a run
+pub piece-of-run : (file : List ℕ) (tracks : List MediaTrack) (runs : List RunOfTrack) (i j : ℕ) (d : RunOfTrack) → map run_value runs ≡ runs_in_order tracks → i ≡ j + 1 → j < length runs
+    → slice_get (pieces_of file tracks) i ≡ Some (segment_bytes i (traf_out file (run_value (get_or runs j d)) ∷ []))
+unfolding pieces_of
+piece-of-run file tracks runs zero j d e p h = absurd (omega (arith, p))
+piece-of-run file tracks runs (suc k) j d e p h =
+    let at : k ≡ j = omega (arith, p) in
+    let n : 1 + j ≡ suc k = omega (arith, p) in
+    ap (slice_get (segments_from file 1 (runs_in_order tracks))) at
+    ∙ (ap (λ rs. slice_get (segments_from file 1 rs) j) (sym e)
+    ∙ (segment-at file 1 j runs d h
+    ∙ ap (λ m. Some (segment_bytes m (traf_out file (run_value (get_or runs j d)) ∷ []))) n))
+
+-- what is made is the piece at a place
+pub made-piece : {E : Type 0} (r : Result (List ℕ) E) (pieces : List (List ℕ)) (i : ℕ) (bytes : List ℕ) → slice_get pieces i ≡ Some bytes → IfOk r (λ made. made ≡ bytes) → IfOk r (λ piece. slice_get pieces i ≡ Some piece)
+made-piece (Ok made) pieces i bytes e f = e ∙ ap Some (sym f)
+made-piece (Err error) pieces i bytes e f = tt
+
+-- one more of them
+pub next-piece : (pieces : List (List ℕ)) (i : ℕ) (piece : List ℕ) → slice_get pieces i ≡ Some piece → take (i + 1) pieces ≡ take i pieces ++ piece ∷ []
+next-piece pieces i piece e =
+    take_more pieces i piece (slice_get_within pieces i piece e)
+    ∙ ap (λ y. take i pieces ++ y ∷ []) (get_or_from_slice_get pieces i piece piece e)

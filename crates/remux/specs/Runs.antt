@@ -1,5 +1,5 @@
 -- The samples of a classic file in runs, each of which becomes a movie fragment (ISO/IEC 14496-12, 8.8).
-use Rattle.std.specs.Prelude.{ℕ, ◌+◌, ◌%◌, ◌^◌, ◌≤◌, nat_le, nat_lt, ◌==◌, ◌||◌, ℤ, pos, ◌-ℤ◌, int_lt, Bool, false, if◌then◌else◌, List, [], ◌∷◌, ◌++◌, length, map, sum_by}
+use Rattle.std.specs.Prelude.{◌≡◌, ℕ, ◌+◌, ◌%◌, ◌^◌, ◌≤◌, nat_le, nat_lt, ◌==◌, ◌||◌, ℤ, pos, ◌-ℤ◌, int_lt, Bool, false, if◌then◌else◌, List, [], ◌∷◌, ◌++◌, length, map, sum_by, take}
 use Rattle.std.specs.List.{AllByRecursion, flat_map}
 use Rattle.mse_base.specs.Time.{media_ticks}
 use Rattle.mse_base.specs.declared.track.Kind.{Kind}
@@ -41,6 +41,23 @@ runs_from kind position run (s ∷ ss) =
 abbrev pub runs_of : Kind → List Sample → List (List Sample)
 runs_of kind [] = []
 runs_of kind (s ∷ ss) = runs_from kind 1 (s ∷ []) ss
+
+-- ---- what a list of runs has
+
+-- the samples of runs, one run behind the other
+abbrev pub samples_in : List (List Sample) → List Sample
+samples_in [] = []
+samples_in (run ∷ runs) = run ++ samples_in runs
+
+-- the position of the first sample of a run in its track
+abbrev pub first_position : List (List Sample) → ℕ → ℕ
+first_position runs i = length (samples_in (take i runs))
+
+-- Behind the first k samples of a run stands this one in the track: the run ends there exactly where a new run is to
+-- begin with it, or there is no room for it.
+abbrev pub IsEndOfRun : Kind → ℕ → List Sample → ℕ → Sample → Type 0
+IsEndOfRun kind first run k sample =
+    is_over_before kind (first + k) (take k run) sample ≡ (k == length run)
 
 -- a run of samples of a file of this length, which has room for them
 pub record IsShortRun (len : ℕ) (run : List Sample) : Type 0 where

@@ -30,7 +30,8 @@ use Rattle.bmff_write.proofs.ReadBoxes.{box_child}
 use Rattle.bmff_write.proofs.ReadRuns.{trun_fields, trun_payload, run_count_written, run_offset_written, run_first_flags_written, sample_told, sample_len_is, told_written}
 use Rattle.bmff_write.proofs.ReadFragments.{tfhd_payload, tfdt_payload, tfhd_flags, tfhd_number, time_read, traf_row, traf_payload, traf_payloads, row_read, traf_boxes_all, moof_payload, moof_row, moof_row_read, moof_below, moof_small}
 use Rattle.written_back.specs.Segments.{IsTrafOf}
-use Rattle.written_back.specs.Slots.{SampleRead, sample_read, slots_read, traf_slots, trafs_slots, AreMedia}
+use Rattle.bmff_fragment.specs.declared.sample.FragmentSample.{FragmentSample}
+use Rattle.written_back.specs.Slots.{sample_read, slots_read, traf_slots, trafs_slots, AreMedia}
 
 -- ---- the types of the reader of movie fragments, which has no names for them outside
 
@@ -94,7 +95,7 @@ samples_from defaults at count i (s ∷ samples) front size fits small =
     let same : head ++ ((front ++ sample_bytes s) ++ back) ≡ p = ap (λ (xs : List ℕ). head ++ xs) (append_assoc front (sample_bytes s) back) in
     let rest : each (map (run_sample_of defaults (run_header count at) p) (range_with_len (i + 1) (length samples))) ≡ Some (map sample_read samples) =
     ap (λ (xs : List ℕ). each (map (run_sample_of defaults (run_header count at) xs) (range_with_len (i + 1) (length samples)))) (sym same) ∙ others in
-    ap (λ (o : Option SampleRead). each (o ∷ map (run_sample_of defaults (run_header count at) p) (range_with_len (i + 1) (length samples)))) first
+    ap (λ (o : Option FragmentSample). each (o ∷ map (run_sample_of defaults (run_header count at) p) (range_with_len (i + 1) (length samples)))) first
     ∙ ap (option_map (λ xs. sample_read s ∷ xs)) rest
 
 samples_written : (defaults : Defaults) (at : ℕ) (samples : List SampleOut) → AllByRecursion IsFittingSample samples → AllByRecursion IsSmall samples
@@ -103,23 +104,23 @@ samples_written defaults at samples fits small = samples_from defaults at (lengt
 
 -- the sums over the samples before are those that grow sample by sample
 pub duration_push : (before : List SampleOut) (s : SampleOut) → duration_of (map sample_read (before ++ s ∷ [])) ≡ duration_of (map sample_read before) + s.duration
-duration_push [] s = omega (arith, sum_by-cons (λ (x : SampleRead). x.duration) (sample_read s) [])
+duration_push [] s = omega (arith, sum_by-cons (λ (x : FragmentSample). x.duration) (sample_read s) [])
 duration_push (b ∷ before) s =
     let ih = duration_push before s in
-    omega (arith, ih, sum_by-cons (λ (x : SampleRead). x.duration) (sample_read b) (map sample_read (before ++ s ∷ [])), sum_by-cons (λ (x : SampleRead). x.duration) (sample_read b) (map sample_read before))
+    omega (arith, ih, sum_by-cons (λ (x : FragmentSample). x.duration) (sample_read b) (map sample_read (before ++ s ∷ [])), sum_by-cons (λ (x : FragmentSample). x.duration) (sample_read b) (map sample_read before))
 
 pub data_push : (before : List SampleOut) (s : SampleOut) → data_len (map sample_read (before ++ s ∷ [])) ≡ data_len (map sample_read before) + length s.payload
-data_push [] s = omega (arith, sum_by-cons (λ (x : SampleRead). x.size) (sample_read s) [])
+data_push [] s = omega (arith, sum_by-cons (λ (x : FragmentSample). x.size) (sample_read s) [])
 data_push (b ∷ before) s =
     let ih = data_push before s in
-    omega (arith, ih, sum_by-cons (λ (x : SampleRead). x.size) (sample_read b) (map sample_read (before ++ s ∷ [])), sum_by-cons (λ (x : SampleRead). x.size) (sample_read b) (map sample_read before))
+    omega (arith, ih, sum_by-cons (λ (x : FragmentSample). x.size) (sample_read b) (map sample_read (before ++ s ∷ [])), sum_by-cons (λ (x : FragmentSample). x.size) (sample_read b) (map sample_read before))
 
 -- the data of the samples are their payloads
 pub data_is : (samples : List SampleOut) → data_len (map sample_read samples) ≡ payload_len samples
 data_is [] = refl
 data_is (s ∷ samples) =
     let ih = data_is samples in
-    omega (arith, ih, sum_by-cons (λ (x : SampleRead). x.size) (sample_read s) (map sample_read samples), sum_by-cons (λ (x : SampleOut). length x.payload) s samples)
+    omega (arith, ih, sum_by-cons (λ (x : FragmentSample). x.size) (sample_read s) (map sample_read samples), sum_by-cons (λ (x : SampleOut). length x.payload) s samples)
 
 -- ---- the slots of a run
 
@@ -138,7 +139,7 @@ slots_from track time at before (s ∷ samples) all e =
     ∙ ap (λ (n : ℕ). take n (map sample_read before ++ map sample_read (s ∷ samples))) (sym (length-map before sample_read))
     ∙ take-append_seam (map sample_read before) (map sample_read (s ∷ samples)) in
     let first : slot_at track time run (length before, sample_read s) ≡ slot_of track (time + duration_of (map sample_read before)) (at + data_len (map sample_read before)) (sample_read s) =
-    ap (λ (xs : List SampleRead). slot_of track (time + duration_of xs) (at + data_len xs) (sample_read s)) front in
+    ap (λ (xs : List FragmentSample). slot_of track (time + duration_of xs) (at + data_len xs) (sample_read s)) front in
     let index : length (before ++ s ∷ []) ≡ length before + 1 = length-append before (s ∷ []) in
     let later : time + duration_of (map sample_read (before ++ s ∷ [])) ≡ time + duration_of (map sample_read before) + s.duration = omega (arith, duration_push before s) in
     let farther : at + data_len (map sample_read (before ++ s ∷ [])) ≡ at + data_len (map sample_read before) + length s.payload = omega (arith, data_push before s) in

@@ -4,3 +4,13 @@ pub mod Edits
 pub mod Movie
 pub mod Written
 pub mod Made
+pub mod Chains
+pub mod RunTracks
+pub mod Segments
+pub mod Joined
+pub mod Bytes
+pub mod Scales
+pub mod Tables
+pub mod Samples
+pub mod Tracks
+pub mod Law

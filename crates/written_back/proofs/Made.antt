@@ -1,6 +1,7 @@
 -- A file that is made from a number reads back.
-use Rattle.std.proofs.Common.{◌≡◌, ◌∙◌, ℕ, zero, suc, ◌+◌, ◌<◌, ◌≤◌, List, [], ◌∷◌, ◌++◌, length, map, None, length-append, ap, refl, sym, arith}
+use Rattle.std.proofs.Common.{◌≡◌, ◌∙◌, ℕ, zero, suc, ◌+◌, ◌<◌, ◌≤◌, List, [], ◌∷◌, ◌++◌, length, map, Option, length-append, ap, refl, sym, arith}
 use Rattle.std.specs.List.{flat_map, range_with_len, AllByRecursion}
+use Rattle.mse_base.specs.declared.track.Presentation.{Presentation}
 use Rattle.segment_walk.specs.Segments.{items_of_string}
 use Rattle.bmff_write.specs.declared.track_out.TrackOut.{TrackOut}
 use Rattle.bmff_write.specs.Fits.{IsFittingTrack, IsFittingSample, IsFittingTraf}
@@ -63,9 +64,9 @@ made_init_size =
       vmhd_size,
     )
 
-pub made_read : (n : ℕ) → n ≤ 10000 → items_of_string None (made_bytes n) ≡ items_read (made_track ∷ []) 595 (made_segments_out n)
+pub made_read : (before : Option Presentation) (n : ℕ) → n ≤ 10000 → items_of_string before (made_bytes n) ≡ items_read (made_track ∷ []) 595 (made_segments_out n)
 unfolding made_bytes
-made_read n few =
-    ap (λ (xs : List ℕ). items_of_string None (init_bytes (made_track ∷ []) ++ xs)) (sym (same_bytes (range_with_len 0 n)))
-    ∙ written_plain (made_track ∷ []) (made_segments_out n) made_tracks (track_fits, tt) (segments_of_track 0 n (omega arith))
+made_read before n few =
+    ap (λ (xs : List ℕ). items_of_string before (init_bytes (made_track ∷ []) ++ xs)) (sym (same_bytes (range_with_len 0 n)))
+    ∙ written_plain before (made_track ∷ []) (made_segments_out n) made_tracks (track_fits, tt) (segments_of_track 0 n (omega arith))
     ∙ ap (λ (m : ℕ). items_read (made_track ∷ []) m (made_segments_out n)) made_init_size

@@ -28,20 +28,10 @@ use Rattle.bmff_write.specs.Tracks.{IsTrackOut, AreNumbersDistinct, AreTracksOut
 use Rattle.bmff_write.specs.Movie.{handler_of, greatest_number, moov_bytes}
 use Rattle.bmff_write.proofs.ReadBoxes.{box_child}
 use Rattle.bmff_write.proofs.ReadMovies.{table_payload, table_row, stbl_payload, table_row_read, no_entries, information_row, minf_payload, information_read, stbl_first, mdhd_payload, hdlr_payload, media_row, mdia_payload, media_row_read, scale_read, handler_written, tkhd_payload, track_row, trak_payload, track_row_read, mdia_first, edts_first, number_read, trex_payload, trex_len, trex_zero, few_edits, trak_payloads, mvhd_payload, trex_boxes, mvex_payload, trexes_row, trexes_all, movie_row, traks_all, mvex_first, mvhd_scale, mvhd_duration, mvhd_version, moov_payload, moov_small, movie_row_read}
+use Rattle.bmff_init.specs.declared.form.Form.{Form}
+use Rattle.bmff_init.specs.declared.track.TrackContent.{TrackContent}
 use Rattle.written_back.specs.Tracks.{track_read, presentation_read, last_media_time, wait_of}
-use Rattle.written_back.specs.Slots.{FourthOf}
 use Rattle.written_back.proofs.Edits.{Shifts, shifts_read, shifts_written}
-
--- ---- the types of the reader of movie boxes, which has no names for them outside
-
-abbrev FirstOf : {A B : Type 0} → (A → B) → Type 0
-FirstOf {A = A} {B = B} f = A
-
-abbrev Form : Type 0
-Form = FirstOf extends_of
-
-abbrev Content : Type 0
-Content = FourthOf track_with
 
 -- what is asked of a movie box in the form of fragmented files
 record IsFragmented (form : Form) : Type 0 where
@@ -128,7 +118,7 @@ trexes_zero (t ∷ ts) =
     let ih = trexes_zero ts in
     ((one.0, ih.0), (one.1, ih.1), (one.2, ih.2))
 
-abbrev content_read : TrackOut → Content
+abbrev content_read : TrackOut → TrackContent
 content_read t = record { codec = t.codec; scale = t.scale; media_shift = last_media_time t.edits; empty_shift = media_ticks (pos (wait_of t.edits)) 1000 }
 
 with_trexes : (ts : List TrackOut) (t : TrackOut) → track_with (map trex_payload ts) t.id t.kind (content_read t) ≡ track_read t
@@ -139,7 +129,7 @@ with_trexes ts t =
     let c = find_zero trex_flags_of (is_trex_of t.id) (map trex_payload ts) zero.2 in
     rw (a, b, c) refl
 
-track_known : (form : Form) (trexes : List (List ℕ)) (before : List TrackInfo) (trak : List ℕ) (track media : List BoxView) (id : ℕ) (kind : Kind) (content : Content) → row_of trak ≡ Some track → track_number_of before track ≡ Ok id
+track_known : (form : Form) (trexes : List (List ℕ)) (before : List TrackInfo) (trak : List ℕ) (track media : List BoxView) (id : ℕ) (kind : Kind) (content : TrackContent) → row_of trak ≡ Some track → track_number_of before track ≡ Ok id
     → mdia_row_of track ≡ Ok media → kind_in media ≡ Ok kind → content_of form 1000 kind track media ≡ Ok content → track_of_trak form 1000 trexes before trak ≡ Ok (track_with trexes id kind content)
 unfolding track_of_trak
 track_known form trexes before trak track media id kind content a b c d e = rw (a, b, c, d, e) refl

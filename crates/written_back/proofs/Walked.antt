@@ -19,7 +19,8 @@ use Rattle.bmff_fragment.specs.Times.{slot_of}
 use Rattle.parser_loop.specs.Items.{FrameItem, SegmentEnd}
 use Rattle.parser_loop.specs.Parse.{ParserView, items_of}
 use Rattle.segment_walk.specs.Tables.{SegmentItem}
-use Rattle.segment_walk.specs.Segments.{OpenFragment, Context, NoFragment, InFragment, SegmentParse, view_at, is_inside, frame_item_at, parse_once_there, parse_of_slots, parse_of_boxes, parse_of_box, parse_of_header, parse_of_mdat, parse_of_data_end}
+use Rattle.segment_walk.specs.Segments.{OpenFragment, Context, NoFragment, InFragment, SegmentParse, view_at, is_inside, frame_item_at, parse_once_there, parse_of_boxes, parse_of_box, parse_of_header, parse_of_mdat}
+use Rattle.segment_walk.proofs.Mdats.{parse_of_slots, parse_of_data_end, mdat-slots}
 use Rattle.bmff_write.specs.declared.traf_out.SampleOut.{SampleOut}
 use Rattle.bmff_write.specs.declared.traf_out.TrafOut.{TrafOut}
 use Rattle.bmff_write.specs.Boxes.{box_bytes}
@@ -252,7 +253,8 @@ segment_step n b p at g rest media fits stands =
     p.tracks place (at + (moof_len trafs + 8)) trafs rest fits.each refl (omega arith) (omega arith) (omega (arith, within, long)) payload in
     let last = end_step n b open_view at (at + moof_len trafs + 8) end slots (omega (arith, within, long)) in
     let ends : end ≡ at + length (segment_bytes g.sequence trafs) = omega (arith, long) in
-    ap items_of first ∙ ap items_of second ∙ frames
+    let slot_by_slot = mdat-slots (parse_of_boxes n b) b open_view (filled at slots (at + moof_len trafs + 8) end) in
+    ap items_of first ∙ ap items_of second ∙ ap items_of slot_by_slot ∙ frames
     ∙ ap (λ (xs : List SegmentItem). trafs_read p.tracks (at + (moof_len trafs + 8)) trafs ++ xs) last
     ∙ ap (λ (m : ℕ). trafs_read p.tracks (at + (moof_len trafs + 8)) trafs ++ SegmentEnd ∷ items_of (parse_of_boxes n b (Some p) (NoFragment Waiting) m)) ends
 

@@ -1,5 +1,5 @@
 -- A file that was written, read as one string.
-use Rattle.std.proofs.Common.{◌≡◌, ◌≢◌, ◌∙◌, ℕ, suc, ◌+◌, ◌<◌, ◌≤◌, ◌^◌, leb, ltb, Bool, true, false, cond, List, [], ◌∷◌, ◌++◌, length, map, drop, Option, Some, None, Ok, append_assoc, length-append, ap, refl, sym, arith}
+use Rattle.std.proofs.Common.{◌≡◌, ◌≢◌, ◌∙◌, ℕ, suc, ◌+◌, ◌<◌, ◌≤◌, ◌^◌, leb, ltb, Bool, true, false, cond, List, [], ◌∷◌, ◌++◌, length, map, drop, Option, Some, Ok, append_assoc, length-append, ap, refl, sym, arith}
 use Rattle.std.proofs.lemmas.Bool.Decides.{nat_tests}
 use Rattle.std.proofs.lemmas.List.{drop_at, drop-drop}
 use Rattle.std.proofs.Math.Seq.{drop-append_seam}
@@ -58,19 +58,19 @@ are_media (t ∷ ts) each id track found =
 
 -- ---- the initialization segment
 
-ftyp_step : (n : ℕ) (b : List ℕ) → header_of b ≡ head.Whole (codes "ftyp") 8 24 → 24 ≤ length b
-    → parse_of_boxes (suc n) b None (NoFragment Waiting) 0 ≡ parse_of_boxes n b None (NoFragment InInit) 24
-ftyp_step n b header there =
+ftyp_step : (n : ℕ) (b : List ℕ) (before : Option Presentation) → header_of b ≡ head.Whole (codes "ftyp") 8 24 → 24 ≤ length b
+    → parse_of_boxes (suc n) b before (NoFragment Waiting) 0 ≡ parse_of_boxes n b before (NoFragment InInit) 24
+ftyp_step n b before header there =
     let come : leb 24 (length b) ≡ true = grind (arith, nat_tests) in
-    at_header n b None (NoFragment Waiting) 0 (head.Whole (codes "ftyp") 8 24) header ∙ rw come refl
+    at_header n b before (NoFragment Waiting) 0 (head.Whole (codes "ftyp") 8 24) header ∙ rw come refl
 
-moov_step : (n : ℕ) (b : List ℕ) (at len : ℕ) (p : Presentation) → header_of (drop at b) ≡ head.Whole (codes "moov") 8 len → len ≤ 2 ^ 24 → at + len ≤ length b
+moov_step : (n : ℕ) (b : List ℕ) (before : Option Presentation) (at len : ℕ) (p : Presentation) → header_of (drop at b) ≡ head.Whole (codes "moov") 8 len → len ≤ 2 ^ 24 → at + len ≤ length b
     → init_of (slice_range b at (at + len)) ≡ Ok p
-    → items_of (parse_of_boxes (suc n) b None (NoFragment InInit) at) ≡ InitItem p at ∷ items_of (parse_of_boxes n b (Some p) (NoFragment Waiting) (at + len))
-moov_step n b at len p header small there read =
+    → items_of (parse_of_boxes (suc n) b before (NoFragment InInit) at) ≡ InitItem p at ∷ items_of (parse_of_boxes n b (Some p) (NoFragment Waiting) (at + len))
+moov_step n b before at len p header small there read =
     let few : ltb (at + 2 ^ 24) (at + len) ≡ false = grind (arith, nat_tests) in
     let come : leb (at + len) (length b) ≡ true = grind (arith, nat_tests) in
-    ap items_of (at_header n b None (NoFragment InInit) at (head.Whole (codes "moov") 8 len) header) ∙ rw (few, come, read) refl
+    ap items_of (at_header n b before (NoFragment InInit) at (head.Whole (codes "moov") 8 len) header) ∙ rw (few, come, read) refl
 
 moov_header : (b : List ℕ) (at : ℕ) (ts : List TrackOut) (stsds : List (List ℕ)) (rest : List ℕ) → AreTracksOut ts → AreSampleDescriptions ts stsds → drop at b ≡ moov_bytes ts stsds ++ rest
     → header_of (drop at b) ≡ head.Whole (codes "moov") 8 (length (moov_bytes ts stsds))
@@ -89,10 +89,10 @@ init_size ts stsds = omega (arith, length-append ftyp_bytes (moov_bytes ts stsds
 
 -- ---- the string
 
-pub written : (ts : List TrackOut) (stsds : List (List ℕ)) (segments : List SegmentOut) → AreTracksOut ts → AllByRecursion IsFittingTrack ts → AreSampleDescriptions ts stsds
+pub written : (before : Option Presentation) (ts : List TrackOut) (stsds : List (List ℕ)) (segments : List SegmentOut) → AreTracksOut ts → AllByRecursion IsFittingTrack ts → AreSampleDescriptions ts stsds
     → AllByRecursion (IsSegmentOf (map track_read ts)) segments
-    → items_of_string None (init_bytes_with ts stsds ++ segments_bytes segments) ≡ items_read ts (length (init_bytes_with ts stsds)) segments
-written ts stsds segments are fits described each =
+    → items_of_string before (init_bytes_with ts stsds ++ segments_bytes segments) ≡ items_read ts (length (init_bytes_with ts stsds)) segments
+written before ts stsds segments are fits described each =
     let moov : List ℕ = moov_bytes ts stsds in
     let rest : List ℕ = segments_bytes segments in
     let b : List ℕ = init_bytes_with ts stsds ++ rest in
@@ -105,15 +105,15 @@ written ts stsds segments are fits described each =
     let total = length-append (init_bytes_with ts stsds) rest in
     let behind_ftyp : drop 24 b ≡ moov ++ rest = ap (drop 24) parts ∙ drop_at ftyp_bytes (moov ++ rest) 24 ftyp_size in
     let behind_moov : drop (24 + length moov) b ≡ rest = sym (drop-drop (length moov) 24 b) ∙ ap (drop (length moov)) behind_ftyp ∙ drop-append_seam moov rest in
-    let first = ftyp_step (suc count) b (ap header_of parts ∙ ftyp_header (moov ++ rest)) (omega (arith, long, total)) in
+    let first = ftyp_step (suc count) b before (ap header_of parts ∙ ftyp_header (moov ++ rest)) (omega (arith, long, total)) in
     let read = ap init_of (part_is b 24 moov rest behind_ftyp) ∙ init_written ts stsds are fits described in
-    let second = moov_step count b 24 (length moov) p (moov_header b 24 ts stsds rest are described behind_ftyp) (moov_below ts stsds are described) (omega (arith, long, total)) read in
+    let second = moov_step count b before 24 (length moov) p (moov_header b 24 ts stsds rest are described behind_ftyp) (moov_below ts stsds are described) (omega (arith, long, total)) read in
     let others = segments_walked m b p (24 + length moov) segments (are_media ts are.each) each behind_moov in
-    let enough = enough-boxes None b (suc (suc count)) (omega (arith, least)) in
+    let enough = enough-boxes before b (suc (suc count)) (omega (arith, least)) in
     ap items_of (sym enough) ∙ ap items_of first ∙ second
     ∙ ap (λ (xs : List SegmentItem). InitItem p 24 ∷ xs) others
     ∙ ap (λ (n : ℕ). InitItem p 24 ∷ segments_read (map track_read ts) n segments) (sym long)
 
-pub written_plain : (ts : List TrackOut) (segments : List SegmentOut) → AreTracksOut ts → AllByRecursion IsFittingTrack ts → AllByRecursion (IsSegmentOf (map track_read ts)) segments
-    → items_of_string None (init_bytes ts ++ segments_bytes segments) ≡ items_read ts (length (init_bytes ts)) segments
-written_plain ts segments are fits each = written ts (map stsd_bytes ts) segments are fits (plain_descriptions ts fits) each
+pub written_plain : (before : Option Presentation) (ts : List TrackOut) (segments : List SegmentOut) → AreTracksOut ts → AllByRecursion IsFittingTrack ts → AllByRecursion (IsSegmentOf (map track_read ts)) segments
+    → items_of_string before (init_bytes ts ++ segments_bytes segments) ≡ items_read ts (length (init_bytes ts)) segments
+written_plain before ts segments are fits each = written before ts (map stsd_bytes ts) segments are fits (plain_descriptions ts fits) each

@@ -1,6 +1,7 @@
 -- What a movie fragment reads as.
 use Rattle.std.specs.Prelude.{◌≡◌, ℕ, ◌+◌, ◌<◌, ◌^◌, true, List, [], ◌∷◌, ◌++◌, length, Option, Some, None}
 use Rattle.mse_base.specs.declared.track.TrackInfo.{TrackInfo}
+use Rattle.bmff_fragment.specs.declared.sample.FragmentSample.{FragmentSample}
 use Rattle.bmff_fragment.specs.declared.slot.Slot.{Slot}
 use Rattle.bmff_fragment.specs.Times.{slot_of}
 use Rattle.mse_base.specs.Moments.{is_media}
@@ -10,15 +11,8 @@ use Rattle.bmff_write.specs.declared.traf_out.TrafOut.{TrafOut}
 use Rattle.bmff_write.specs.Tracks.{payload_len}
 use Rattle.bmff_write.specs.Fragment.{sample_flags}
 
--- what the function takes as its fourth argument
-abbrev pub FourthOf : {A B C D E : Type 0} → (A → B → C → D → E) → Type 0
-FourthOf {A = A} {B = B} {C = C} {D = D} {E = E} f = D
-
 -- a sample as the reader of movie fragments sees it
-abbrev pub SampleRead : Type 0
-SampleRead = FourthOf slot_of
-
-abbrev pub sample_read : SampleOut → SampleRead
+abbrev pub sample_read : SampleOut → FragmentSample
 sample_read s = record {
   duration = s.duration;
   size = length s.payload;

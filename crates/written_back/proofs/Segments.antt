@@ -27,9 +27,9 @@ use Rattle.remux.proofs.RunLaws.{IsShortView}
 use Rattle.remux.proofs.PieceLaws.{length_range, payload_is, trafs_are}
 use Rattle.written_back.specs.Segments.{SegmentOut, IsTrafOf, IsSegmentOf, frame_read, samples_read, traf_read, segments_read, segments_bytes}
 use Rattle.written_back.proofs.Walked.{segment_size}
-use Rattle.remux_back.specs.Fragments.{track_info, tick_of, frame_of_sample, items_of_samples, has_track_number, items_of_run, head_len, items_of_runs}
-use Rattle.remux_back.proofs.Chains.{IsFittingInRun, IsChain, IsPart}
-use Rattle.remux_back.proofs.RunTracks.{IsRunIn}
+use Rattle.written_back.specs.Fragments.{track_info, tick_of, frame_of_sample, items_of_samples, has_track_number, items_of_run, head_len, items_of_runs}
+use Rattle.written_back.proofs.Chains.{IsFittingInRun, IsChain, IsPart}
+use Rattle.written_back.proofs.RunTracks.{IsRunIn}
 
 -- ---- the frames of samples
 

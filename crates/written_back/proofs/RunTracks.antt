@@ -8,8 +8,8 @@ use Rattle.mse_base.specs.Presentation.{HasDistinctIds}
 use Rattle.sample_tables.specs.declared.sample.Sample.{Sample}
 use Rattle.sample_tables.specs.declared.media_track.MediaTrack.{MediaTrack}
 use Rattle.remux.specs.Runs.{runs_of, SampleRun, first_decode, sample_run, track_runs, run_put, in_order, runs_in_order}
-use Rattle.remux_back.specs.Fragments.{has_track_number}
-use Rattle.remux_back.proofs.Chains.{IsFittingInRun, IsChain, IsPart, parts_of}
+use Rattle.written_back.specs.Fragments.{has_track_number}
+use Rattle.written_back.proofs.Chains.{IsFittingInRun, IsChain, IsPart, parts_of}
 
 -- ---- a number names the one track that has it
 

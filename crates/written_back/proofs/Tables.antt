@@ -27,8 +27,8 @@ use Rattle.sample_tables.specs.Tables.{entry_total, duration_run_at, duration_ru
 use Rattle.sample_tables.specs.Samples.{durations_of}
 use Rattle.sample_tables.specs.Facts.{IsDescription}
 use Rattle.sample_tables.specs.Movies.{sample_table_in, description_in, description_payload, description_codec, track_tables}
-use Rattle.remux_back.proofs.Bytes.{AreBytes, some_same, number_below, IsByteBox, row_bytes, first_bytes}
-use Rattle.remux_back.proofs.Scales.{same_ok, media_bytes}
+use Rattle.written_back.proofs.Bytes.{AreBytes, some_same, number_below, IsByteBox, row_bytes, first_bytes}
+use Rattle.written_back.proofs.Scales.{same_ok, media_bytes}
 
 -- ---- durations
 

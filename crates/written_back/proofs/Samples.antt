@@ -11,8 +11,8 @@ use Rattle.sample_tables.specs.Samples.{sample_at, samples_of}
 use Rattle.sample_tables.specs.Rules.{is_short_offset}
 use Rattle.sample_tables.proofs.RuleLaws.{both_true, sum_cons}
 use Rattle.sample_tables.proofs.ColumnLaws.{sum_more}
-use Rattle.remux_back.proofs.Chains.{IsChain, IsFittingInRun, fits_short}
-use Rattle.remux_back.proofs.Tables.{IsShortTime}
+use Rattle.written_back.proofs.Chains.{IsChain, IsFittingInRun, fits_short}
+use Rattle.written_back.proofs.Tables.{IsShortTime}
 
 -- ---- decode times
 

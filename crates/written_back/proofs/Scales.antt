@@ -17,7 +17,7 @@ use Rattle.bmff_init.specs.declared.fault.InitFault.TheVariants.{Size, Missing, 
 use Rattle.bmff_init.specs.Edits.{shifts_in}
 use Rattle.bmff_init.specs.Tracks.{media_scale_of, codec_in, no_content, media_content, content_of, track_number_of, mdia_row_of, kind_in, track_with, track_of_trak, tracks_of_traks}
 use Rattle.bmff_init.specs.Movies.{moment_of, times_of, extends_of, presentation_in, moov_presentation_of}
-use Rattle.remux_back.proofs.Bytes.{AreBytes, field_below, IsByteBox, payload_bytes, row_bytes, first_bytes, all_bytes}
+use Rattle.written_back.proofs.Bytes.{AreBytes, field_below, IsByteBox, payload_bytes, row_bytes, first_bytes, all_bytes}
 
 -- ---- the types of the reader of movie boxes, which has no names for them outside
 

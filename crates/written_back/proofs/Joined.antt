@@ -1,5 +1,5 @@
 -- The pieces of a file, one behind the other.
-use Rattle.std.proofs.Common.{◌≡◌, ℕ, ◌-◌, ◌^◌, Bool, true, false, cond, ℤ, pos, ◌≤ℤ◌, List, [], ◌∷◌, ◌++◌, length, map, None, ap, refl, sym, ◌∙◌, arith, subst}
+use Rattle.std.proofs.Common.{◌≡◌, ℕ, ◌-◌, ◌^◌, Bool, true, false, cond, ℤ, pos, ◌≤ℤ◌, List, [], ◌∷◌, ◌++◌, length, map, Option, ap, refl, sym, ◌∙◌, arith, subst}
 use Rattle.std.specs.List.{AllByRecursion, flat_map}
 use Rattle.std.specs.Ordering.{int_eq}
 use Rattle.std.proofs.lemmas.Bool.Decides.{Decides-int_eq}
@@ -11,6 +11,7 @@ use Rattle.bmff_write.specs.declared.track_out.TrackOut.{TrackOut}
 use Rattle.bmff_write.specs.Fits.{IsFittingEdit, IsFittingTrack}
 use Rattle.bmff_write.specs.Movie.{init_bytes_with}
 use Rattle.parser_loop.specs.Items.{InitItem}
+use Rattle.mse_base.specs.declared.track.Presentation.{Presentation}
 use Rattle.segment_walk.specs.Segments.{items_of_string}
 use Rattle.segment_walk.specs.Tables.{SegmentItem}
 use Rattle.sample_tables.specs.declared.media_track.MediaTrack.{MediaTrack}
@@ -22,10 +23,10 @@ use Rattle.remux.proofs.PieceLaws.{tracks_out_are, descriptions_are}
 use Rattle.written_back.specs.Tracks.{last_media_time, wait_of, track_read}
 use Rattle.written_back.specs.Segments.{SegmentOut, IsSegmentOf, segments_read, segments_bytes}
 use Rattle.written_back.proofs.Written.{written}
-use Rattle.remux_back.specs.Fragments.{track_info, presentation_of_tracks, items_of_file}
-use Rattle.remux_back.proofs.Chains.{fits_short}
-use Rattle.remux_back.proofs.RunTracks.{IsTold, runs_in}
-use Rattle.remux_back.proofs.Segments.{segments_out, joined, segments_are, segments_fit}
+use Rattle.written_back.specs.Fragments.{track_info, presentation_of_tracks, items_of_file}
+use Rattle.written_back.proofs.Chains.{fits_short}
+use Rattle.written_back.proofs.RunTracks.{IsTold, runs_in}
+use Rattle.written_back.proofs.Segments.{segments_out, joined, segments_are, segments_fit}
 
 -- ---- the tracks
 
@@ -95,9 +96,9 @@ init_is tracks = refl
 items_by : List TrackInfo → ℕ → List SegmentOut → List SegmentItem
 items_by infos len segments = InitItem (record { scale = 1000; duration = Infinite; tracks = infos }) 24 ∷ segments_read infos len segments
 
-pub read_back : (file : List ℕ) (tracks : List MediaTrack) → AreFileTracks (length file) tracks → AllByRecursion IsTold tracks → items_of_string None (flat_map (λ (piece : List ℕ). piece) (pieces_of file tracks)) ≡ items_of_file file tracks
+pub read_back : (before : Option Presentation) (file : List ℕ) (tracks : List MediaTrack) → AreFileTracks (length file) tracks → AllByRecursion IsTold tracks → items_of_string before (flat_map (λ (piece : List ℕ). piece) (pieces_of file tracks)) ≡ items_of_file file tracks
 unfolding items_by
-read_back file tracks h k =
+read_back before file tracks h k =
     let runs : List SampleRun = runs_in_order tracks in
     let ts : List TrackOut = map track_out tracks in
     let stsds : List (List ℕ) = map (λ (t : MediaTrack). t.stsd) tracks in
@@ -107,9 +108,9 @@ read_back file tracks h k =
     let short = ordered_short (length file) tracks h.each in
     let each = runs_in tracks h.distinct k in
     let fit : AllByRecursion (IsSegmentOf (map track_read ts)) segments = subst (λ (is : List TrackInfo). AllByRecursion (IsSegmentOf is) segments) (sym same) (segments_fit file tracks 1 runs each short) in
-    let read = written ts stsds segments (tracks_out_are (length file) tracks h) (tracks_fit (length file) tracks h.each k) (descriptions_are (length file) tracks h.each) fit in
+    let read = written before ts stsds segments (tracks_out_are (length file) tracks h) (tracks_fit (length file) tracks h.each k) (descriptions_are (length file) tracks h.each) fit in
     let len : ℕ = length (init_bytes_with ts stsds) in
-    ap (items_of_string None) (string_is file tracks ∙ ap (λ (xs : List ℕ). xs ++ segments_bytes segments) (init_is tracks))
+    ap (items_of_string before) (string_is file tracks ∙ ap (λ (xs : List ℕ). xs ++ segments_bytes segments) (init_is tracks))
     ∙ (read
     ∙ (ap (λ (is : List TrackInfo). items_by is len segments) same
     ∙ (ap (λ (n : ℕ). items_by infos n segments) (sym (ap length (init_is tracks)))

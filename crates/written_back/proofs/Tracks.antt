@@ -33,11 +33,11 @@ use Rattle.sample_tables.specs.Facts.{IsFileTrack, AreFew, AreFileTracks, IsMedi
 use Rattle.sample_tables.proofs.ConsistentLaws.{complete}
 use Rattle.sample_tables.proofs.FactLaws.{boxes_are, some_there, file_tracks_are, all_push}
 use Rattle.sample_tables.proofs.TrackLaws.{track_read, track_few, track_facts, range_parts, few_parts}
-use Rattle.remux_back.proofs.Bytes.{AreBytes, IsByte, IsByteBox, payload_bytes, row_bytes, all_bytes}
-use Rattle.remux_back.proofs.RunTracks.{IsTold}
-use Rattle.remux_back.proofs.Samples.{times_below, samples_fit, samples_chain}
-use Rattle.remux_back.proofs.Scales.{same_ok, IsScaled, presentation_below}
-use Rattle.remux_back.proofs.Tables.{IsShortTime, IsRead, tables_read}
+use Rattle.written_back.proofs.Bytes.{AreBytes, IsByte, IsByteBox, payload_bytes, row_bytes, all_bytes}
+use Rattle.written_back.proofs.RunTracks.{IsTold}
+use Rattle.written_back.proofs.Samples.{times_below, samples_fit, samples_chain}
+use Rattle.written_back.proofs.Scales.{same_ok, IsScaled, presentation_below}
+use Rattle.written_back.proofs.Tables.{IsShortTime, IsRead, tables_read}
 
 -- ---- one track
 

@@ -1,5 +1,0 @@
-use Rattle.remux_back.proofs.Law.{remux_reads_back}
-use Rattle.remux_back.proofs.laws.remux_law.Goals as goal
-
-pub returns : goal.returns
-returns c = remux_reads_back
