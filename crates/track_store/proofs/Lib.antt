@@ -6,6 +6,6 @@ pub mod Grouping
 pub mod Limits
 pub mod Listing
 pub mod Overlapping
-pub mod Runs
+pub mod CallRuns
 pub mod Soundness
 pub mod StillSound

@@ -1,10 +1,11 @@
 -- Tracks that stay sound.
-use Rattle.std.proofs.Common.{◌≡◌, ℕ, zero, suc, List, [], ◌∷◌, map, set, slice_get, Some, subst}
+use Rattle.std.proofs.Common.{◌≡◌, ◌≤◌, ℕ, zero, suc, List, [], ◌∷◌, map, set, slice_get, Some, subst}
 use Rattle.std.specs.Option.{IfSome}
 use Rattle.std.specs.List.{AllByRecursion}
 use Rattle.track_store.specs.State.{TrackState}
 use Rattle.track_store.specs.Sound.{IsSound}
-use Rattle.track_store.specs.Kept.{AreStillSound}
+use Rattle.track_store.specs.declared.tracks.Track.{Track}
+use Rattle.track_store.specs.Kept.{AreStillSound, IsCountable, HasSpareRoom}
 
 pub still_same : (ts : List TrackState) → AreStillSound ts ts
 still_same [] = tt
@@ -37,3 +38,13 @@ pub sound_in : (ts : List TrackState) (i : ℕ) → AllByRecursion IsSound ts �
 sound_in [] i h = tt
 sound_in (t ∷ ts) zero h = h.0
 sound_in (t ∷ ts) (suc i) h = sound_in ts i h.1
+
+pub counted_in : (ts : List TrackState) (i : ℕ) → AllByRecursion IsCountable ts → IfSome (slice_get ts i) IsCountable
+counted_in [] i h = tt
+counted_in (t ∷ ts) zero h = h.0
+counted_in (t ∷ ts) (suc i) h = counted_in ts i h.1
+
+pub room_in : {S : Type 0} (spare : S → ℕ) (n : ℕ) (ts : List (Track S)) (i : ℕ) → HasSpareRoom spare n ts → IfSome (slice_get ts i) (λ t. n ≤ spare t.store)
+room_in spare n [] i h = tt
+room_in spare n (t ∷ ts) zero h = h.0
+room_in spare n (t ∷ ts) (suc i) h = room_in spare n ts i h.1

@@ -10,9 +10,14 @@ use Rattle.track_store.specs.Sound.{IsSound}
 abbrev pub bytes_in : List TrackState → ℕ
 bytes_in ts = sum_by (λ t. bytes_of t.frames) ts
 
--- what every step keeps: each track buffer is sound, and the bytes of all can be counted
+-- a track received at most 2 ^ 62 frames
+abbrev pub IsCountable : TrackState → Type 0
+IsCountable t = t.marks.received ≤ 2 ^ 62
+
+-- what every step keeps: each track buffer is sound, and the frames received and the bytes of all can be counted
 pub record AreSoundAndCountable (ts : List TrackState) : Type 0 where
   pub sound : AllByRecursion IsSound ts
+  pub counted : AllByRecursion IsCountable ts
   pub small : bytes_in ts < 2 ^ 62
 
 -- of two lists of the same tracks, each track that is sound in the first is sound in the second

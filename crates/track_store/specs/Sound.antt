@@ -1,9 +1,9 @@
 -- What every step keeps of a track buffer: each frame that it holds can be decoded from what it holds.
-use Rattle.std.specs.Prelude.{◌≡◌, ◌<◌, ◌≤◌, ◌^◌, ◌+◌, ◌⊎◌, ℕ, ℤ, pos, ◌≤ℤ◌, Bool, true, false, List, [], ◌∷◌, Option, Some, None, ⊤}
+use Rattle.std.specs.Prelude.{◌≡◌, ◌<◌, ◌+◌, ◌⊎◌, ℕ, ℤ, pos, ◌≤ℤ◌, Bool, true, false, List, [], ◌∷◌, Option, Some, None, ⊤}
 use Rattle.std.specs.List.{AllByRecursion}
 use Rattle.std.specs.Option.{IfSome}
 use Rattle.track_store.specs.declared.store.Stored.{Stored}
-use Rattle.track_store.specs.Frames.{IsAscending, IsTimed}
+use Rattle.track_store.specs.Frames.{IsAscending}
 use Rattle.track_store.specs.State.{TrackState}
 
 -- the list has the frame whose serial is one less
@@ -43,14 +43,11 @@ AreTogether None None None None need = need ≡ true
 AreTogether decode duration end first need = ⊥
 
 pub record IsSound (t : TrackState) : Type 0 where
-  -- a track receives at most 2 ^ 62 frames
-  pub count : t.marks.received ≤ 2 ^ 62
   -- each frame can be decoded after the one before it
   pub chained : IsChained None t.frames
   pub ascending : IsAscending t.frames
   pub below : AllByRecursion (λ f. f.serial < t.marks.received) t.frames
   pub not_negative : AllByRecursion IsNotNegative t.frames
-  pub timed : AllByRecursion IsTimed t.frames
   -- while no random access point is needed, the frame that was received last is held, and last
   pub last_held : t.marks.need_sync ≡ false
       → IsSuccessor (last_serial None t.frames) t.marks.received

@@ -1,7 +1,7 @@
 //! Calls of a store as values, so that laws can speak of lists of them.
 
-ghost use Rattle.std.specs.Prelude.{◌≡◌};
-ghost use Rattle.track_store.specs.Calls.{IsAllowedChange, IsLookAnswer, IsChange, IsRoomAfterChange, answer_view};
+ghost use Rattle.std.specs.Prelude.{◌≡◌, ◌≤◌, OnOk, OnErr};
+ghost use Rattle.track_store.specs.Calls.{IsAllowedChange, IsGiven, IsReserve, answer_of, answer_view, frames_after, room_after};
 ghost use Rattle.track_store.specs.Frames.{IsAscending};
 
 use crate::{FrameStore, Stored};
@@ -55,12 +55,14 @@ pub enum StoreCall {
     Look(StoreLook),
 }
 
-/// Changes a store by a call. Only `Reserve` takes memory, and where it finds none the frames are
-/// as before.
+/// Changes a store by a call. Only `Reserve` takes memory; where it finds none the frames are as
+/// before, and no room is lost.
 pub fn change<S: FrameStore>(store: &mut S, change: StoreChange) -> Result<(), OutOfMemory>
     requires { IsAllowedChange (S.spare store.old) change (S.frames store.old) }
-    ensures frames { IsChange change (S.frames store.old) (S.frames store.new) }
-    ensures room { IsRoomAfterChange change (S.spare store.old) result (S.spare store.new) }
+    ensures frames { S.frames store.new ≡ frames_after change (S.frames store.old) }
+    ensures room { OnOk result (room_after change (S.spare store.old) ≤ S.spare store.new) }
+    ensures no_memory { OnErr result
+        (IsReserve change × (S.spare store.old ≤ S.spare store.new)) }
     ensures gap { S.gap store.new ≡ S.gap store.old }
 {
     match change {
@@ -76,7 +78,7 @@ pub fn change<S: FrameStore>(store: &mut S, change: StoreChange) -> Result<(), O
 /// Looks something up in a store by a call. Only `CopyRanges` takes memory.
 pub fn look_up<'a, S: FrameStore>(store: &'a S, look: &StoreLook) -> StoreAnswer<'a>
     ensures ascending { IsAscending (S.frames store.now) }
-    ensures answer { IsLookAnswer (S.gap store.now) look.now (S.frames store.now)
+    ensures answer { IsGiven (answer_of (S.gap store.now) look.now (S.frames store.now))
         (answer_view result) }
 {
     // The proof reads off this that the serials ascend.

@@ -3,13 +3,16 @@
 
 ghost use Rattle.std.specs.Prelude.{◌≡◌, ◌+ℤ◌, ◌≤ℤ◌, ℤ, Bool, true, false, List, [], ◌∷◌, ◌++◌, ◌||◌, Some, None};
 ghost use Rattle.std.specs.List.{AllByRecursion};
-ghost use Rattle.track_store.specs.Calls.{AnswerView, AreSameAnswers, IsCallRun};
+ghost use Rattle.track_store.specs.Calls.{AnswerView, AreSameAnswers, IsCallRun, IsGiven, answer_of, frames_after};
 ghost use Rattle.mse_base.specs.Moments.{greatest};
 ghost use Rattle.track_store.specs.Frames.{ends, frames_without, from_sync};
 ghost use Rattle.track_store.specs.Kept.{AreEndedBy};
 ghost use Rattle.track_store.specs.Sound.{IsSound, IsDecodable};
 ghost use Rattle.track_store.specs.State.{TrackState};
 ghost use Rattle.track_store.specs.declared.calls.StoreCall.{StoreCall};
+ghost use Rattle.track_store.specs.declared.calls.StoreCall.TheVariants.{Change, Look};
+ghost use Rattle.track_store.specs.declared.calls.StoreChange.{StoreChange};
+ghost use Rattle.track_store.specs.declared.calls.StoreLook.{StoreLook};
 ghost use Rattle.track_store.specs.declared.store.Stored.{Stored};
 
 /// What a removal is, in the words of the standard (Media Source Extensions, coded frame removal,
@@ -33,11 +36,24 @@ pub fn decodable()
     ensures { (t : TrackState) → IsSound t → IsDecodable t.frames }
 {}
 
+/// Calls one after another are a run: none at all, and one call more than a run, as `change` or
+/// `look_up` ensures it.
+pub fn call_runs()
+    ensures none { (gap : ℤ) (fs : List Stored) → IsCallRun gap fs [] [] fs }
+    ensures change { (gap : ℤ) (fs gs : List Stored) (calls : List StoreCall)
+        (given : List AnswerView) (c : StoreChange) → IsCallRun gap fs calls given gs
+        → IsCallRun gap fs (calls ++ Change c ∷ []) given (frames_after c gs) }
+    ensures look { (gap : ℤ) (fs gs : List Stored) (calls : List StoreCall)
+        (given : List AnswerView) (l : StoreLook) (a : AnswerView) → IsCallRun gap fs calls given gs
+        → IsGiven (answer_of gap l gs) a
+        → IsCallRun gap fs (calls ++ Look l ∷ []) (given ++ a ∷ []) gs }
+{}
+
 /// Any two stores give the same answers: from the same frames and gap, over the same calls, the
 /// answers to the look-ups are the same, but that a store may find no memory, and so are the
 /// frames that are left. So any store gives the answers of the plain store. The calls are all of
-/// `FrameStore`; what `change` and `look_up` ensure is, call by call, what the law asks of a
-/// store, and they know of it only the contract of `FrameStore`.
+/// `FrameStore`; `run_calls` makes such a run of any store, and knows of it only the contract of
+/// `FrameStore`.
 pub fn same_answers()
     ensures { (gap : ℤ) (fs gs hs : List Stored) (calls : List StoreCall)
         (xs ys : List AnswerView) → IsCallRun gap fs calls xs gs → IsCallRun gap fs calls ys hs

@@ -15,6 +15,7 @@ mod list_store;
 pub mod named;
 pub mod places;
 mod removal;
+pub mod runs;
 mod store;
 mod tracks;
 

@@ -3,7 +3,7 @@ ghost use Rattle.std.specs.List.{AllByRecursion, filter, position};
 ghost use Rattle.mse_base.specs.Time.{IsTick};
 ghost use Rattle.mse_base.specs.Spans.{reaches, last_of, has_end_after, has_start_before};
 ghost use Rattle.mse_base.specs.Moments.{least, greatest};
-ghost use Rattle.track_store.specs.Frames.{bytes_of, ends, ranges_of, has_serial, is_within, frames_without, frames_with_dur, group_start_of, overlapped, frame_at, sync_times_from, starts, HasFrameInvariants};
+ghost use Rattle.track_store.specs.Frames.{bytes_of, ends, ranges_of, has_serial, is_within, frames_without, frames_with_dur, group_start_of, overlapped, frame_at, sync_times_from, starts, IsAscending, IsTimed};
 ghost use Rattle.track_store.specs.Sound.{HasPredecessor};
 ghost use Rattle.track_store.specs.declared.store.Stored.{Stored};
 
@@ -51,12 +51,14 @@ pub trait FrameStore: Sized + Drop {
         ensures frames { frames result ≡ [] }
         ensures gap { gap result ≡ tolerance };
 
-    /// What is true of every store, for proofs: it does nothing. Serials ascend, and the bytes
-    /// stored can be counted.
+    /// What is true of every store, for proofs: it does nothing. Serials ascend, no frame ends
+    /// before it begins, each ends at a time in range, and the bytes stored can be counted.
     fn serials_ascend(&self)
-        ensures { HasFrameInvariants (frames self.now) };
+        ensures ascending { IsAscending (frames self.now) }
+        ensures timed { AllByRecursion IsTimed (frames self.now) }
+        ensures small { bytes_of (frames self.now) < 2 ^ 62 };
 
-    /// Makes room for `n` more frames.
+    /// Makes room for `n` more frames. An `Err` leaves the frames, and no less room than before.
     fn reserve(&mut self, n: usize) -> Result<(), OutOfMemory>
         ensures frames { frames self.new ≡ frames self.old }
         ensures spare { OnOk result (n ≤ spare self.new) }

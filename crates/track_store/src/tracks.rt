@@ -1,4 +1,4 @@
-ghost use Rattle.std.specs.Prelude.{◌≡◌, ◌+◌, ◌≤◌, [], ◌∷◌, ◌++◌, length, OnOk, slice_get, option_copied};
+ghost use Rattle.std.specs.Prelude.{◌≡◌, ◌+◌, ◌≤◌, [], ◌∷◌, ◌++◌, length, OnOk, OnErr, slice_get, option_copied};
 ghost use Rattle.std.specs.Option.{option_copied_mut};
 ghost use Rattle.std.specs.Borrow.{sem};
 
@@ -133,11 +133,12 @@ impl<S: FrameStore> Tracks<S> {
         }
     }
 
-    /// Makes room for `n` more tracks.
+    /// Makes room for `n` more tracks. An `Err` leaves the tracks and the room.
     pub fn reserve(&mut self, n: usize) -> Result<(), OutOfMemory>
         ensures items { self.new.items ≡ self.old.items }
         ensures spare { OnOk result (n ≤ self.new.spare) }
         ensures no_room_lost { self.old.spare ≤ self.new.spare }
+        ensures same_room { OnErr result (self.new.spare ≡ self.old.spare) }
     {
         self.items.reserve(n)?;
         Ok(())
