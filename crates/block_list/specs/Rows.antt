@@ -1,5 +1,5 @@
 -- Lists in rows.
-use Rattle.std.specs.Prelude.{◌≡◌, ℕ, ◌+◌, ◌-◌, ◌*◌, ◌^◌, ◌<◌, ◌≤◌, List, [], ◌∷◌, length, max, Bool, false}
+use Rattle.std.specs.Prelude.{◌≡◌, ℕ, ◌+◌, ◌-◌, ◌*◌, ◌^◌, ◌<◌, ◌≤◌, List, [], ◌∷◌, length, max, Bool, false, Result, OnOk}
 use Rattle.std.specs.List.{AllByRecursion}
 use Rattle.mse_base.specs.Rows.{row_items, AreEmpty, Blocks}
 
@@ -7,6 +7,16 @@ use Rattle.mse_base.specs.Rows.{row_items, AreEmpty, Blocks}
 pub record ListView (T : Type 0) : Type 0 where
   pub rows : List (List T)
   pub spare : ℕ
+
+-- the rows are as before, and there is no less room for more items, and where all went well room for n
+pub record IsReserved {T R E : Type 0} (n : ℕ) (result : Result R E) (old new : ListView T) : Type 0 where
+  pub rows : new.rows ≡ old.rows
+  pub no_room_lost : old.spare ≤ new.spare
+  pub spare : OnOk result (n ≤ new.spare)
+
+-- the second number is the first, or one more
+abbrev pub AreOneApart : ℕ → ℕ → Type 0
+AreOneApart m n = (m ≤ n) × (n ≤ m + 1)
 
 -- what the rows hold of the room of half blocks: the last all that it has, each other what it has beyond a half;
 -- no row as much as a half

@@ -15,6 +15,13 @@ abbrev pub plus_each : ℕ → List ℕ → List ℕ
 plus_each x [] = []
 plus_each x (n ∷ ns) = (n + x) ∷ plus_each x ns
 
+-- starts of rows of which those from a place on are too great, all by the same
+pub record AreStartsFrom {T : Type 0} (kept : List ℕ) (place excess : ℕ) (rows : List (List T))
+    : Type 0 where
+  pub len : length kept ≡ length rows
+  pub front : take place kept ≡ take place (starts_of rows)
+  pub rest : drop place kept ≡ plus_each excess (drop place (starts_of rows))
+
 -- starts as they are kept: those from a place on are too great, all by the same
 pub record AreStartsUpTo (kept : List ℕ) (settled excess : ℕ) (starts : List ℕ) : Type 0 where
   pub long : length kept ≡ length starts

@@ -125,34 +125,38 @@ impl<T, F: Fact<T>> Block<T, F> {
     }
 }
 
-/// Puts an item among others, where there is room.
-fn put_between<T: Drop>(items: &mut Vec<T>, i: usize, x: T)
-    requires within { i ≤ length items.old.items }
-    requires room { length items.old.items < vec_capacity items.old }
-    ensures items { items.new.items ≡ insert items.old.items i x }
+/// Takes out the items from place `from` up to before place `to`.
+pub fn take_out<T: Drop>(items: &mut Vec<T>, from: usize, to: usize)
+    requires in_order { from ≤ to }
+    requires within { to ≤ length items.old.items }
+    ensures items { items.new.items ≡ take from items.old.items ++ drop to items.old.items }
     ensures capacity { vec_capacity items.new ≡ vec_capacity items.old }
 {
-    match items.insert(i, x) {
-        Ok(()) => {}
-        Err(_) => unreachable!(),
+    let len = items.len();
+    if from < to {
+        items.slice_mut(from..len).rotate_left(to - from);
+        items.truncate(len - (to - from));
     }
 }
 
 /// Puts an item in, where there is room. Most are put behind all others or before the last.
-fn put_at<T: Drop>(items: &mut Vec<T>, i: usize, x: T)
+pub(crate) fn put_at<T: Drop>(items: &mut Vec<T>, i: usize, x: T)
     requires within { i ≤ length items.old.items }
     requires room { length items.old.items < vec_capacity items.old }
     ensures items { items.new.items ≡ insert items.old.items i x }
     ensures capacity { vec_capacity items.new ≡ vec_capacity items.old }
 {
     let len = items.len();
-    if i + 1 < len {
-        put_between(items, i, x);
+    if i + 1 >= len {
+        items.push_reserved(x);
+        if i < len {
+            items.swap(i, len);
+        }
         return;
     }
-    items.push_reserved(x);
-    if i < len {
-        items.swap(i, len);
+    match items.insert(i, x) {
+        Ok(()) => {}
+        Err(_) => unreachable!(),
     }
 }
 
@@ -190,10 +194,8 @@ impl<T: Drop, F: Fact<T>> Block<T, F> {
         requires within { to ≤ length self.old }
         ensures { self.new ≡ take from self.old ++ drop to self.old }
     {
-        let len = self.items.len();
         if from < to {
-            self.items.slice_mut(from..len).rotate_left(to - from);
-            self.items.truncate(len - (to - from));
+            take_out(&mut self.items, from, to);
             self.fact = F::of(self.items.as_slice());
         }
     }

@@ -3,11 +3,11 @@
 ghost use Rattle.std.specs.Prelude.{◌≡◌, ℕ, ◌+◌, ◌-◌, ◌*◌, ◌^◌, ◌<◌, ◌≤◌, [], ◌∷◌, ◌++◌, length, take, drop, OnOk, IfSome, IfNone, suc, slice_index_or, slice_set, vec_capacity, max, false};
 ghost use Rattle.std.specs.List.{insert, remove};
 ghost use Rattle.mse_base.specs.Rows.{row_items, start, row, split_row, AreEmpty};
-ghost use Rattle.block_list.specs.Rows.{ListView, used_room, AreShort, AreNonEmpty, IsListed, IsCounted};
-ghost use Rattle.block_list.specs.BlockPlaces.{rank, IsPlace};
+ghost use Rattle.block_list.specs.Rows.{used_room, AreShort, AreNonEmpty, AreOneApart, IsListed, IsReserved};
+ghost use Rattle.block_list.specs.BlockPlaces.{rank, IsItemPlace, IsInBlock, IsItemAt, IsPlaceAfter, IsItemSet, AreBounds, items_outside};
 ghost use Rattle.block_list.specs.Starts.{starts_of};
 
-use crate::block::{Block, Change, Fact};
+use crate::block::{Block, Change, Fact, put_at};
 use mse_base::OutOfMemory;
 use std::alloc::Global;
 use std::marker::Model;
@@ -107,10 +107,7 @@ fn split_at<T: Copy + Drop, F: Fact<T>>(
 {
     let mut right = right;
     blocks[b].split_into(s, &mut right);
-    match blocks.insert(b + 1, right) {
-        Ok(()) => {}
-        Err(_) => unreachable!(),
-    }
+    put_at(blocks, b + 1, right);
 }
 
 /// Where a full block is cut: the last one behind what stands before the place.
@@ -316,8 +313,7 @@ impl<T, F: Fact<T>> BlockList<T, F> {
     pub fn new(alloc: Global, half: usize) -> BlockList<T, F>
         requires half_not_zero { 0 < half }
         requires half_at_most_64 { half ≤ 64 }
-        ensures rows { result.rows ≡ [] }
-        ensures spare { result.spare ≡ 0 }
+        ensures { result ≡ record { rows = []; spare = 0 } }
     {
         BlockList {
             alloc,
@@ -372,9 +368,7 @@ impl<T, F: Fact<T>> BlockList<T, F> {
 
     /// Makes room for `n` more items. An `Err` leaves the list.
     pub fn reserve(&mut self, n: usize) -> Result<(), OutOfMemory>
-        ensures rows { self.new.rows ≡ self.old.rows }
-        ensures no_room_lost { self.old.spare ≤ self.new.spare }
-        ensures spare { OnOk result (n ≤ self.new.spare) }
+        ensures { IsReserved n result self.old self.new }
     {
         if n <= self.spare {
             return Ok(());
@@ -390,10 +384,8 @@ impl<T, F: Fact<T>> BlockList<T, F> {
 
     /// The item at a place.
     pub fn item(&self, place: BlockPlace) -> &T
-        requires block { place.block < length self.now.rows }
-        requires index { place.index < length (row self.now.rows place.block) }
-        ensures { result.now
-            ≡ slice_index_or (row_items self.now.rows) (rank self.now.rows place) result.now }
+        requires { IsItemPlace self.now.rows place }
+        ensures { IsItemAt self.now.rows place result.now }
     {
         let items = self.block(place.block);
         &items[place.index]
@@ -401,10 +393,8 @@ impl<T, F: Fact<T>> BlockList<T, F> {
 
     /// The place behind that of an item.
     pub fn next(&self, place: BlockPlace) -> BlockPlace
-        requires block { place.block < length self.now.rows }
-        requires index { place.index < length (row self.now.rows place.block) }
-        ensures rank { rank self.now.rows result ≡ rank self.now.rows place + 1 }
-        ensures place { IsPlace self.now.rows result }
+        requires { IsItemPlace self.now.rows place }
+        ensures { IsPlaceAfter self.now.rows (rank self.now.rows place + 1) result }
     {
         // A block has few items, so the sum fits.
         let _len = len_at(&self.blocks, place.block);
@@ -417,10 +407,8 @@ impl<T, F: Fact<T>> BlockList<T, F> {
 
     /// The same place as that of an item, where it is behind a block's last and not at the end.
     pub fn at_item(&self, place: BlockPlace) -> BlockPlace
-        requires block { place.block < length self.now.rows }
-        requires index { place.index ≤ length (row self.now.rows place.block) }
-        ensures rank { rank self.now.rows result ≡ rank self.now.rows place }
-        ensures place { IsPlace self.now.rows result }
+        requires { IsInBlock self.now.rows place }
+        ensures { IsPlaceAfter self.now.rows (rank self.now.rows place) result }
     {
         // The proof reads off this what always holds of the fields.
         let _len = self.len;
@@ -435,12 +423,8 @@ impl<T, F: Fact<T>> BlockList<T, F> {
 
     /// Changes the item at a place.
     pub fn change<C: Change<T>>(&mut self, place: BlockPlace, change: &C)
-        requires block { place.block < length self.old.rows }
-        requires index { place.index < length (row self.old.rows place.block) }
-        ensures items { (d : T) → row_items self.new.rows
-            ≡ slice_set (row_items self.old.rows) (rank self.old.rows place)
-            (C.after change.now
-            (slice_index_or (row_items self.old.rows) (rank self.old.rows place) d)) }
+        requires { IsItemPlace self.old.rows place }
+        ensures items { IsItemSet (C.after change.now) self.old.rows place self.new.rows }
         ensures starts { starts_of self.new.rows ≡ starts_of self.old.rows }
         ensures spare { self.new.spare ≡ self.old.spare }
     {
@@ -451,8 +435,7 @@ impl<T, F: Fact<T>> BlockList<T, F> {
 
     /// Takes out the item at a place.
     pub fn remove(&mut self, place: BlockPlace) -> T
-        requires block { place.block < length self.old.rows }
-        requires index { place.index < length (row self.old.rows place.block) }
+        requires { IsItemPlace self.old.rows place }
         ensures value { result ≡ slice_index_or (row self.old.rows place.block) place.index result }
         ensures items { row_items self.new.rows
             ≡ remove (row_items self.old.rows) (start self.old.rows place.block + place.index) }
@@ -461,8 +444,7 @@ impl<T, F: Fact<T>> BlockList<T, F> {
         ensures rest { drop
             ((place.block + 1 + length self.new.rows) - length self.old.rows) self.new.rows
             ≡ drop (place.block + 1) self.old.rows }
-        ensures one_block_apart { (length self.new.rows ≤ length self.old.rows)
-            × (length self.old.rows ≤ length self.new.rows + 1) }
+        ensures one_block_apart { AreOneApart (length self.new.rows) (length self.old.rows) }
         ensures spare { self.new.spare ≡ self.old.spare }
     {
         // The proof reads off this what always holds of the fields.
@@ -481,8 +463,7 @@ impl<T, F: Fact<T>> BlockList<T, F> {
 impl<T: Drop, F: Fact<T>> BlockList<T, F> {
     /// Puts another item in place of one.
     pub fn set(&mut self, place: BlockPlace, x: T)
-        requires block { place.block < length self.old.rows }
-        requires index { place.index < length (row self.old.rows place.block) }
+        requires { IsItemPlace self.old.rows place }
         ensures items { row_items self.new.rows
             ≡ slice_set (row_items self.old.rows) (rank self.old.rows place) x }
         ensures front { take place.block self.new.rows ≡ take place.block self.old.rows }
@@ -527,8 +508,7 @@ impl<T: Drop, F: Fact<T>> BlockList<T, F> {
 
     /// Takes out what stands behind a place in its block; the number of blocks up to there.
     fn cut_tail(&mut self, place: BlockPlace) -> usize
-        requires block { place.block < length self.old.rows }
-        requires index { place.index < length (row self.old.rows place.block) }
+        requires { IsItemPlace self.old.rows place }
         ensures from_block { place.block ≤ result }
         ensures to_next { result ≤ place.block + 1 }
         ensures front { row_items (take result self.new.rows)
@@ -597,16 +577,8 @@ impl<T: Drop, F: Fact<T>> BlockList<T, F> {
 
     /// Takes out the items from a place up to before another.
     pub fn remove_range(&mut self, from: BlockPlace, to: BlockPlace)
-        requires from { from.block < length self.old.rows }
-        requires from_index { from.index < length (row self.old.rows from.block) }
-        requires to { to.block < length self.old.rows }
-        requires to_index { to.index ≤ length (row self.old.rows to.block) }
-        requires some { 0 < to.index }
-        requires in_order { from.block ≤ to.block }
-        requires in_block { from.block ≡ to.block → from.index ≤ to.index }
-        ensures items { row_items self.new.rows
-            ≡ take (start self.old.rows from.block + from.index) (row_items self.old.rows)
-            ++ drop (start self.old.rows to.block + to.index) (row_items self.old.rows) }
+        requires { AreBounds self.old.rows from to }
+        ensures items { row_items self.new.rows ≡ items_outside self.old.rows from to }
         // Only the blocks from one place to the other change, or go.
         ensures front { take from.block self.new.rows ≡ take from.block self.old.rows }
         ensures rest { drop
@@ -633,8 +605,7 @@ impl<T: Drop, F: Fact<T>> BlockList<T, F> {
         // Only the last block changes, or comes.
         ensures front { take (length self.new.rows - 1) self.new.rows
             ≡ take (length self.new.rows - 1) self.old.rows }
-        ensures one_block_apart { (length self.old.rows ≤ length self.new.rows)
-            × (length self.new.rows ≤ length self.old.rows + 1) }
+        ensures one_block_apart { AreOneApart (length self.old.rows) (length self.new.rows) }
         ensures spare { self.new.spare + 1 ≡ self.old.spare }
     {
         self.spare -= 1;
@@ -657,8 +628,7 @@ impl<T: Drop, F: Fact<T>> BlockList<T, F> {
 impl<T: Copy + Drop, F: Fact<T>> BlockList<T, F> {
     /// Puts an item before that at a place, or behind a block's last.
     pub fn insert(&mut self, place: BlockPlace, x: T)
-        requires block { place.block < length self.old.rows }
-        requires index { place.index ≤ length (row self.old.rows place.block) }
+        requires place { IsInBlock self.old.rows place }
         requires room { 1 ≤ self.old.spare }
         ensures items { row_items self.new.rows
             ≡ insert (row_items self.old.rows) (start self.old.rows place.block + place.index) x }
@@ -667,13 +637,13 @@ impl<T: Copy + Drop, F: Fact<T>> BlockList<T, F> {
         ensures rest { drop
             ((place.block + 1 + length self.new.rows) - length self.old.rows) self.new.rows
             ≡ drop (place.block + 1) self.old.rows }
-        ensures one_block_apart { (length self.old.rows ≤ length self.new.rows)
-            × (length self.new.rows ≤ length self.old.rows + 1) }
+        ensures one_block_apart { AreOneApart (length self.old.rows) (length self.new.rows) }
         ensures spare { self.new.spare + 1 ≡ self.old.spare }
     {
+        let len = len_at(&self.blocks, place.block);
         self.spare -= 1;
         self.len += 1;
-        if len_at(&self.blocks, place.block) < 2 * self.half {
+        if len < 2 * self.half {
             put_in(&mut self.blocks, place.block, place.index, x);
             return;
         }

@@ -6,7 +6,7 @@ mod block_list;
 mod finding;
 mod ranked;
 
-pub use block::{Block, Change, Fact};
+pub use block::{Block, Change, Fact, take_out};
 pub use block_list::{BlockList, BlockPlace};
 pub use finding::{Test, search};
 pub use ranked::RankedList;

@@ -1,13 +1,13 @@
 //! A list in blocks that knows how many items stand before each block.
 
-ghost use Rattle.std.specs.Prelude.{◌≡◌, ◌+◌, ◌<◌, ◌≤◌, ◌^◌, [], ◌∷◌, ◌++◌, length, take, drop, true, false, OnOk, slice_index_or, slice_set, vec_capacity};
+ghost use Rattle.std.specs.Prelude.{◌≡◌, ◌+◌, ◌<◌, ◌≤◌, ◌^◌, [], ◌∷◌, ◌++◌, length, take, drop, true, false, slice_index_or, vec_capacity};
 ghost use Rattle.std.specs.List.{AllByRecursion};
 ghost use Rattle.mse_base.specs.Rows.{row_items, start, row};
-ghost use Rattle.block_list.specs.Rows.{IsCut};
-ghost use Rattle.block_list.specs.BlockPlaces.{rank, IsPlace};
-ghost use Rattle.block_list.specs.Starts.{starts_of, plus_each, AreStartsUpTo};
+ghost use Rattle.block_list.specs.Rows.{IsCut, IsReserved};
+ghost use Rattle.block_list.specs.BlockPlaces.{rank, IsItemPlace, IsInBlock, IsItemAt, IsPlaceAfter, IsItemSet, AreBounds, items_outside};
+ghost use Rattle.block_list.specs.Starts.{starts_of, AreStartsFrom, AreStartsUpTo};
 
-use crate::block::{Change, Fact};
+use crate::block::{Change, Fact, take_out};
 use crate::block_list::{BlockList, BlockPlace};
 use crate::finding::{Test, search};
 use mse_base::OutOfMemory;
@@ -43,20 +43,6 @@ impl<T, F: Fact<T>> Model for RankedList<T, F> {
 
     ghost invariant = { λ l. AreStartsUpTo l.starts.items l.settled l.excess
         (starts_of l.list.rows) };
-}
-
-/// Takes out some starts.
-fn take_out(starts: &mut Vec<usize>, from: usize, to: usize)
-    requires in_order { from ≤ to }
-    requires within { to ≤ length starts.old.items }
-    ensures items { starts.new.items ≡ take from starts.old.items ++ drop to starts.old.items }
-    ensures capacity { vec_capacity starts.new ≡ vec_capacity starts.old }
-{
-    let len = starts.len();
-    if from < to {
-        starts.slice_mut(from..len).rotate_left(to - from);
-        starts.truncate(len - (to - from));
-    }
 }
 
 /// Makes the starts of some blocks anew, with `before` items before the first of them; the number
@@ -99,16 +85,10 @@ fn lower<T, F: Fact<T>>(
     to: usize,
     excess: usize,
 )
-    requires len { length starts.old.items ≡ length list.now.rows }
     requires in_order { from ≤ to }
     requires within { to ≤ length list.now.rows }
-    requires front { take from starts.old.items ≡ take from (starts_of list.now.rows) }
-    requires rest { drop from starts.old.items
-        ≡ plus_each excess (drop from (starts_of list.now.rows)) }
-    ensures len { length starts.new.items ≡ length list.now.rows }
-    ensures front { take to starts.new.items ≡ take to (starts_of list.now.rows) }
-    ensures rest { drop to starts.new.items
-        ≡ plus_each excess (drop to (starts_of list.now.rows)) }
+    requires starts { AreStartsFrom starts.old.items from excess list.now.rows }
+    ensures starts { AreStartsFrom starts.new.items to excess list.now.rows }
     ensures capacity { vec_capacity starts.new ≡ vec_capacity starts.old }
 {
     let mut b = from;
@@ -126,17 +106,11 @@ fn raise<T, F: Fact<T>>(
     to: usize,
     excess: usize,
 )
-    requires len { length starts.old.items ≡ length list.now.rows }
     requires in_order { to ≤ from }
     requires within { from ≤ length list.now.rows }
+    requires starts { AreStartsFrom starts.old.items from excess list.now.rows }
     requires fits { start list.now.rows from + excess < 2 ^ 64 }
-    requires front { take from starts.old.items ≡ take from (starts_of list.now.rows) }
-    requires rest { drop from starts.old.items
-        ≡ plus_each excess (drop from (starts_of list.now.rows)) }
-    ensures len { length starts.new.items ≡ length list.now.rows }
-    ensures front { take to starts.new.items ≡ take to (starts_of list.now.rows) }
-    ensures rest { drop to starts.new.items
-        ≡ plus_each excess (drop to (starts_of list.now.rows)) }
+    ensures starts { AreStartsFrom starts.new.items to excess list.now.rows }
     ensures capacity { vec_capacity starts.new ≡ vec_capacity starts.old }
 {
     let mut b = from;
@@ -156,10 +130,7 @@ fn settle<T, F: Fact<T>>(
 )
     requires starts { AreStartsUpTo starts.old.items settled excess (starts_of list.now.rows) }
     requires within { to ≤ length list.now.rows }
-    ensures len { length starts.new.items ≡ length list.now.rows }
-    ensures front { take to starts.new.items ≡ take to (starts_of list.now.rows) }
-    ensures rest { drop to starts.new.items
-        ≡ plus_each excess (drop to (starts_of list.now.rows)) }
+    ensures starts { AreStartsFrom starts.new.items to excess list.now.rows }
     ensures capacity { vec_capacity starts.new ≡ vec_capacity starts.old }
 {
     if settled <= to {
@@ -219,8 +190,7 @@ impl<T, F: Fact<T>> RankedList<T, F> {
     pub fn new(alloc: Global, half: usize) -> RankedList<T, F>
         requires half_not_zero { 0 < half }
         requires half_at_most_64 { half ≤ 64 }
-        ensures rows { result.rows ≡ [] }
-        ensures spare { result.spare ≡ 0 }
+        ensures { result ≡ record { rows = []; spare = 0 } }
     {
         RankedList {
             list: BlockList::new(alloc, half),
@@ -230,18 +200,18 @@ impl<T, F: Fact<T>> RankedList<T, F> {
         }
     }
 
-    /// How many items there are.
-    pub fn len(&self) -> usize
-        ensures { result ≡ length (row_items self.now.rows) }
-    {
-        self.list.len()
-    }
-
     /// How many blocks there are.
     pub fn blocks(&self) -> usize
         ensures { result ≡ length self.now.rows }
     {
         self.list.blocks()
+    }
+
+    /// How many items there are.
+    pub fn len(&self) -> usize
+        ensures { result ≡ length (row_items self.now.rows) }
+    {
+        self.list.len()
     }
 
     /// The items of a block.
@@ -253,19 +223,9 @@ impl<T, F: Fact<T>> RankedList<T, F> {
         self.list.block(b)
     }
 
-    /// What is known of a block.
-    pub fn fact(&self, b: usize) -> &F
-        requires { b < length self.now.rows }
-        ensures { result.now ≡ F.of (row self.now.rows b) }
-    {
-        self.list.fact(b)
-    }
-
     /// Makes room for `n` more items. An `Err` leaves the list.
     pub fn reserve(&mut self, n: usize) -> Result<(), OutOfMemory>
-        ensures rows { self.new.rows ≡ self.old.rows }
-        ensures no_room_lost { self.old.spare ≤ self.new.spare }
-        ensures spare { OnOk result (n ≤ self.new.spare) }
+        ensures { IsReserved n result self.old self.new }
     {
         self.list.reserve(n)?;
         self.starts.reserve(n)?;
@@ -286,8 +246,7 @@ impl<T, F: Fact<T>> RankedList<T, F> {
     /// The place of item `k`.
     pub fn place(&self, k: usize) -> BlockPlace
         requires { k < length (row_items self.now.rows) }
-        ensures block { result.block < length self.now.rows }
-        ensures index { result.index < length (row self.now.rows result.block) }
+        ensures item { IsItemPlace self.now.rows result }
         ensures place { start self.now.rows result.block + result.index ≡ k }
     {
         let mut low = 0;
@@ -308,8 +267,7 @@ impl<T, F: Fact<T>> RankedList<T, F> {
 
     /// How many items stand before a place.
     pub fn rank(&self, place: BlockPlace) -> usize
-        requires block { place.block < length self.now.rows }
-        requires index { place.index ≤ length (row self.now.rows place.block) }
+        requires { IsInBlock self.now.rows place }
         ensures { result ≡ rank self.now.rows place }
     {
         // The proof reads off this that the number of all items is one.
@@ -332,42 +290,32 @@ impl<T, F: Fact<T>> RankedList<T, F> {
 
     /// The item at a place.
     pub fn item(&self, place: BlockPlace) -> &T
-        requires block { place.block < length self.now.rows }
-        requires index { place.index < length (row self.now.rows place.block) }
-        ensures { result.now
-            ≡ slice_index_or (row_items self.now.rows) (rank self.now.rows place) result.now }
+        requires { IsItemPlace self.now.rows place }
+        ensures { IsItemAt self.now.rows place result.now }
     {
         self.list.item(place)
     }
 
     /// The place behind that of an item.
     pub fn next(&self, place: BlockPlace) -> BlockPlace
-        requires block { place.block < length self.now.rows }
-        requires index { place.index < length (row self.now.rows place.block) }
-        ensures rank { rank self.now.rows result ≡ rank self.now.rows place + 1 }
-        ensures place { IsPlace self.now.rows result }
+        requires { IsItemPlace self.now.rows place }
+        ensures { IsPlaceAfter self.now.rows (rank self.now.rows place + 1) result }
     {
         self.list.next(place)
     }
 
     /// The same place as that of an item, where it is behind a block's last and not at the end.
     pub fn at_item(&self, place: BlockPlace) -> BlockPlace
-        requires block { place.block < length self.now.rows }
-        requires index { place.index ≤ length (row self.now.rows place.block) }
-        ensures rank { rank self.now.rows result ≡ rank self.now.rows place }
-        ensures place { IsPlace self.now.rows result }
+        requires { IsInBlock self.now.rows place }
+        ensures { IsPlaceAfter self.now.rows (rank self.now.rows place) result }
     {
         self.list.at_item(place)
     }
 
     /// Changes the item at a place.
     pub fn change<C: Change<T>>(&mut self, place: BlockPlace, change: &C)
-        requires block { place.block < length self.old.rows }
-        requires index { place.index < length (row self.old.rows place.block) }
-        ensures items { (d : T) → row_items self.new.rows
-            ≡ slice_set (row_items self.old.rows) (rank self.old.rows place)
-            (C.after change.now
-            (slice_index_or (row_items self.old.rows) (rank self.old.rows place) d)) }
+        requires { IsItemPlace self.old.rows place }
+        ensures items { IsItemSet (C.after change.now) self.old.rows place self.new.rows }
         ensures spare { self.new.spare ≡ self.old.spare }
     {
         self.list.change(place, change);
@@ -397,16 +345,8 @@ impl<T: Drop, F: Fact<T>> RankedList<T, F> {
 
     /// Takes out the items from a place up to before another.
     pub fn remove_range(&mut self, from: BlockPlace, to: BlockPlace)
-        requires from { from.block < length self.old.rows }
-        requires from_index { from.index < length (row self.old.rows from.block) }
-        requires to { to.block < length self.old.rows }
-        requires to_index { to.index ≤ length (row self.old.rows to.block) }
-        requires some { 0 < to.index }
-        requires in_order { from.block ≤ to.block }
-        requires in_block { from.block ≡ to.block → from.index ≤ to.index }
-        ensures items { row_items self.new.rows
-            ≡ take (start self.old.rows from.block + from.index) (row_items self.old.rows)
-            ++ drop (start self.old.rows to.block + to.index) (row_items self.old.rows) }
+        requires { AreBounds self.old.rows from to }
+        ensures items { row_items self.new.rows ≡ items_outside self.old.rows from to }
         ensures no_room_lost { self.old.spare ≤ self.new.spare }
     {
         let blocks = self.list.blocks();

@@ -8,20 +8,20 @@ use Rattle.mse_base.specs.Rows.{row_items, row, start}
 use Rattle.block_list.specs.Rows.{AreNonEmpty}
 use Rattle.block_list.specs.BlockPlaces.{rank, IsPlace}
 use Rattle.block_list.specs.declared.block_list.BlockPlace.{BlockPlace}
-use Rattle.block_list.proofs.Joining.{start_more}
-use Rattle.block_list.proofs.Ranging.{take_at, row_count}
+use Rattle.block_list.proofs.RowItems.{start_more}
+use Rattle.block_list.proofs.RemovedStretch.{take_at, row_count}
 use Rattle.mse_base.specs.Moments.{is_before, greatest_of_two}
 use Rattle.track_index.specs.declared.entry.OrderEntry.{OrderEntry}
 use Rattle.track_index.specs.declared.key.Key.{Key}
 use Rattle.track_index.specs.Order.{end_of, is_in_entry, or_else, last_that, first_start, is_sync_from, is_ended}
 use Rattle.track_index.specs.Keyed.{is_before_key}
 use Rattle.track_index.specs.Known.{is_sync, greatest_end}
-use Rattle.track_index.specs.Tops.{running_ends, tops_of, AreTopsFrom}
-use Rattle.track_index.proofs.Ordering.{last-append, last_none, each_take, begin_later}
-use Rattle.track_index.proofs.Ending.{length_running_ends, runs_kept, front_kept, greatest-append, greatest_with, top_at, none_covers}
+use Rattle.track_index.specs.Tops.{running_ends, tops_of, AreTopsFrom, AreTopsMendable}
+use Rattle.track_index.proofs.EntryOrder.{last-append, last_none, each_take, begin_later}
+use Rattle.track_index.proofs.BlockEnds.{length_running_ends, runs_kept, front_kept, greatest-append, greatest_with, top_at, none_covers}
 use Rattle.track_index.proofs.Keys.{highs, lows, filter_front}
 
-less_cases : (m n : ℕ) → (m < n) ⊎ (n ≤ m)
+pub less_cases : (m n : ℕ) → (m < n) ⊎ (n ≤ m)
 less_cases m n = grind arith
 
 pub rows_none : {T : Type 0} (rows : List (List T)) → length rows ≡ 0 → rows ≡ []
@@ -51,27 +51,22 @@ rows_all [] (suc n) e = refl
 rows_all (r ∷ rows) zero e = absurd (omega arith)
 rows_all (r ∷ rows) (suc n) e = ap (λ qs. r ∷ qs) (rows_all rows n (omega arith))
 
--- what the ends need after a change in a block
-pub record AreTopsMendable (ts : List (Option ℤ)) (rows : List (List OrderEntry)) (b cap : ℕ) : Type 0 where
-  pub within : b ≤ length ts
-  pub more : length rows ≤ length ts + 1
-  pub fewer : length ts ≤ length rows + 1
-  pub gone : length rows < length ts → b < length ts
-  pub room : length rows ≤ cap
-  pub front : take b ts ≡ take b (tops_of rows)
-  pub rest : AreTopsFrom (b + 1) ts ((b + 1 + length rows) - length ts) rows
-
-pub ready : (ts : List (Option ℤ)) (old new : List (List OrderEntry)) (b cap : ℕ) → ts ≡ tops_of old → b < length old → length new ≤ length old + 1 → length old ≤ length new + 1 → length new ≤ cap → take b new ≡ take b old → drop ((b + 1 + length new) - length old) new ≡ drop (b + 1) old → AreTopsMendable ts new b cap
-ready ts old new b cap e l m f c front rest =
+-- what the ends need after a change in blocks
+pub ready : (ts : List (Option ℤ)) (old new : List (List OrderEntry)) (b behind cap : ℕ) → ts ≡ tops_of old → b < behind → behind ≤ length old → length new ≤ length old + 1 → b + length old ≤ behind + length new → length new ≤ cap → take b new ≡ take b old → drop ((behind + length new) - length old) new ≡ drop behind old → AreTopsMendable ts new b behind cap
+ready ts old new b behind cap e s l m f c front rest =
     let n : length ts ≡ length old = ap length e ∙ length_running_ends None old in
+    let z : behind - 1 + 1 ≡ behind = omega arith in
+    let runs = runs_kept ts ts old new (behind - 1) ((behind + length new) - length old) e (omega arith) (rest ∙ ap (λ (k : ℕ). drop k old) (sym z)) in
     record {
       within = omega arith;
-      more = omega arith;
-      fewer = omega arith;
+      some = s;
+      at_most_one_behind = omega arith;
+      at_most_one_more = omega arith;
+      at_most_touched_gone = omega arith;
       gone = λ _. omega arith;
       room = c;
       front = front_kept ts old new b e front;
-      rest = subst (λ (k : ℕ). AreTopsFrom (b + 1) ts ((b + 1 + length new) - k) new) (sym n) (runs_kept ts ts old new b ((b + 1 + length new) - length old) e l rest);
+      rest = subst (λ (k : ℕ). AreTopsFrom behind ts ((behind + length new) - k) new) (sym n) (subst (λ (k : ℕ). AreTopsFrom k ts ((behind + length new) - length old) new) z runs);
     }
 
 -- the last end, made later by that of an entry that came
@@ -82,18 +77,20 @@ top_with ts old new b k x end e l z j =
     let top : get_or ts b None ≡ greatest_end os = ap (λ i. get_or ts i None) (sym n) ∙ top_at ts old (b + 1) None e (omega arith) (omega arith) ∙ ap (λ rows. greatest_end (row_items rows)) (rows_all old (b + 1) l) in
     ap (λ t. greatest_of_two t (Some end)) top ∙ ap (λ t. greatest_of_two (greatest_end os) (Some t)) z ∙ ap (λ zs. greatest_of_two (greatest_end zs) (Some (end_of x))) (sym (take-append-drop k os)) ∙ greatest_with (take k os) (drop k os) x ∙ ap greatest_end (sym j)
 
-pub first_ready : (ts : List (Option ℤ)) (old new : List (List OrderEntry)) (cap : ℕ) → ts ≡ tops_of old → length old ≡ 0 → length new ≤ 1 → length new ≤ cap → AreTopsMendable ts new 0 cap
+pub first_ready : (ts : List (Option ℤ)) (old new : List (List OrderEntry)) (cap : ℕ) → ts ≡ tops_of old → length old ≡ 0 → length new ≤ 1 → length new ≤ cap → AreTopsMendable ts new 0 1 cap
 first_ready ts old new cap e l m c =
     let none : ts ≡ [] = e ∙ ap tops_of (rows_none old l) in
     let n : length ts ≡ 0 = ap length none in
     record {
       within = omega arith;
-      more = omega arith;
-      fewer = omega arith;
+      some = omega arith;
+      at_most_one_behind = omega arith;
+      at_most_one_more = omega arith;
+      at_most_touched_gone = omega arith;
       gone = λ h. absurd (omega arith);
       room = c;
       front = refl;
-      rest = (None, ap (drop (0 + 1)) none ∙ sym (ap (running_ends None) (drop_all ((0 + 1 + length new) - length ts) new (omega arith))));
+      rest = (None, ap (drop 1) none ∙ sym (ap (running_ends None) (drop_all ((1 + length new) - length ts) new (omega arith))));
     }
 
 -- ---- the last that holds a time

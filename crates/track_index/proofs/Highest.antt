@@ -12,8 +12,8 @@ use Rattle.track_index.specs.declared.entry.OrderEntry.{OrderEntry}
 use Rattle.track_index.specs.Order.{entries_with, entries_with_all, entry_of, end_of, presentation_order}
 use Rattle.track_index.specs.Known.{greatest_end}
 use Rattle.track_index.specs.Repair.{AreTimed}
-use Rattle.track_index.proofs.Ending.{greatest-append, later_assoc, later_comm, greater_is}
-use Rattle.track_index.proofs.Keeping.{timed_entries}
+use Rattle.track_index.proofs.BlockEnds.{greatest-append, later_assoc, later_comm, greater_is}
+use Rattle.track_index.proofs.KeptStore.{timed_entries}
 
 -- a new entry among others
 turn : (a b c : Option ℤ) → greatest_of_two b (greatest_of_two a c) ≡ greatest_of_two a (greatest_of_two b c)

@@ -14,7 +14,7 @@ use Rattle.track_index.specs.declared.entry.OrderEntry.{OrderEntry}
 use Rattle.track_index.specs.declared.key.Key.{Key}
 use Rattle.track_index.specs.Order.{entries_with, entries_with_all, entry_of, presentation_order, with_entry_dur}
 use Rattle.track_index.specs.Keyed.{is_before_key, key_of, IsKeyed, has_entry_serial, is_entry_named, IsNamedAt, IsFound}
-use Rattle.track_index.proofs.Ordering.{each_weaker, each_both, each_whole, each_take, each_put, put_at, lt_of, ge_of, is_lt, not_lt, late}
+use Rattle.track_index.proofs.EntryOrder.{each_weaker, each_both, each_whole, each_take, each_put, put_at, lt_of, ge_of, is_lt, not_lt, late}
 
 -- ---- the test of a key
 

@@ -11,7 +11,7 @@ use Rattle.mse_base.specs.Moments.{is_before, greater_of, lesser_of, greatest, l
 use Rattle.track_store.specs.Frames.{starts, sync_times_from}
 use Rattle.track_index.specs.declared.entry.OrderEntry.{OrderEntry}
 use Rattle.track_index.specs.Order.{entries_with, entries_with_all, entry_of, presentation_order, IsSorted, start_from, last_start, is_sync_from, first_start}
-use Rattle.track_index.proofs.Ordering.{sorted_put, lt_true, is_lt, each_weaker}
+use Rattle.track_index.proofs.EntryOrder.{sorted_put, lt_true, is_lt, each_weaker}
 
 not_lt : (a b : ℤ) → b ≤ℤ a → int_lt a b ≡ false
 not_lt a b h = grind (arith, ints)

@@ -14,9 +14,9 @@ use Rattle.track_index.specs.declared.key.Key.{Key}
 use Rattle.track_index.specs.Order.{entry_of, presentation_order}
 use Rattle.track_index.specs.Keyed.{is_before_key, key_of, has_entry_serial, is_entry_named, IsFound}
 use Rattle.track_index.specs.Indexed.{is_next, IsNextKey}
-use Rattle.track_index.proofs.Ordering.{each_to_ordered, each_of_ordered, each_at}
+use Rattle.track_index.proofs.EntryOrder.{each_to_ordered, each_of_ordered, each_at}
 use Rattle.track_index.proofs.Keys.{any_at, behind_parts, not_before_serial}
-use Rattle.track_index.proofs.Removing.{each_frame, any_ordered}
+use Rattle.track_index.proofs.RemovedRuns.{each_frame, any_ordered}
 
 both_frames : (P Q : Stored → Type 0) (fs : List Stored) → AllByRecursion P fs → AllByRecursion Q fs → AllByRecursion (λ f. P f × Q f) fs
 both_frames P Q [] h k = tt

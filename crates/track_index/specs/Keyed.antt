@@ -1,6 +1,6 @@
 -- Entries by presentation timestamp, at a tie by serial.
-use Rattle.std.specs.Prelude.{◌≡◌, ℕ, ◌+◌, ◌<◌, int_le, int_lt, nat_lt, nat_eq, Bool, true, false, ◌&&◌, ◌||◌, List, [], ◌∷◌, length, take, drop, slice_index_or}
-use Rattle.std.specs.List.{AllByRecursion}
+use Rattle.std.specs.Prelude.{◌≡◌, ℕ, ℤ, ◌+◌, ◌<◌, int_le, int_lt, nat_lt, nat_eq, Bool, true, false, ◌&&◌, ◌||◌, List, [], ◌∷◌, length, take, drop, slice_index_or}
+use Rattle.std.specs.List.{AllByRecursion, list_any}
 use Rattle.mse_base.specs.declared.ticks.Moment.{Moment}
 use Rattle.mse_base.specs.Moments.{is_before}
 use Rattle.track_index.specs.declared.entry.OrderEntry.{OrderEntry}
@@ -26,6 +26,12 @@ is_entry_named to below o = is_before o.pts to && nat_lt o.serial below
 -- the entry has this serial
 abbrev pub has_entry_serial : ℕ → OrderEntry → Bool
 has_entry_serial serial o = nat_eq o.serial serial
+
+-- entries in order, of which one has the serial, and begins at that time
+pub record HasEntry (pts : ℤ) (serial : ℕ) (os : List OrderEntry) : Type 0 where
+  pub keyed : IsKeyed os
+  pub at_pts : AllByRecursion (λ o. o.serial ≡ serial → o.pts ≡ pts) os
+  pub held : list_any (has_entry_serial serial) os ≡ true
 
 -- the entry at place k has the serial, and no other has
 pub record IsNamedAt (serial : ℕ) (os : List OrderEntry) (k : ℕ) : Type 0 where

@@ -5,4 +5,5 @@ pub mod Keyed
 pub mod Frames
 pub mod Syncs
 pub mod Repair
+pub mod Runs
 pub mod Indexed

@@ -1,17 +1,25 @@
 -- Ranges that are repaired.
-use Rattle.std.specs.Prelude.{◌≡◌, ℤ, ◌+ℤ◌, ◌≤ℤ◌, ◌<ℤ◌, ◌||◌, Bool, true, false, List, [], ◌∷◌, map, Option, Some, None, ◌⊎◌}
+use Rattle.std.specs.Prelude.{◌≡◌, ◌≤◌, ℕ, ℤ, pos, ◌+ℤ◌, ◌≤ℤ◌, ◌<ℤ◌, ◌||◌, Bool, true, false, List, [], ◌∷◌, length, map, Option, Some, None, ◌⊎◌}
 use Rattle.std.specs.List.{AllByRecursion}
 use Rattle.mse_base.specs.Time.{IsTick}
 use Rattle.mse_base.specs.declared.span.Span.{Span}
-use Rattle.mse_base.specs.Bridging.{is_near, is_near_any}
+use Rattle.mse_base.specs.Bridging.{IsRanges, is_near, is_near_any}
 use Rattle.track_index.specs.declared.entry.OrderEntry.{OrderEntry}
 use Rattle.track_index.specs.declared.key.Key.{Key}
 use Rattle.track_index.specs.Order.{span_of, end_of}
-use Rattle.track_index.specs.Keyed.{is_before_key}
+use Rattle.track_index.specs.Keyed.{is_before_key, IsKeyed}
 
 -- the ends of the entries are times in range
 abbrev pub AreTimed : List OrderEntry → Type 0
 AreTimed os = AllByRecursion (λ e. IsTick (e.pts +ℤ e.dur)) os
+
+-- ranges that can be repaired by the entries, with room for one range an entry
+pub record AreRepairable (gap : ℤ) (os : List OrderEntry) (rs : List Span) (most : ℕ) : Type 0 where
+  pub gap_from_zero : pos 0 ≤ℤ gap
+  pub ranges : IsRanges gap rs
+  pub room : length os ≤ most
+  pub keyed : IsKeyed os
+  pub timed : AreTimed os
 
 -- the ranges have all ticks of the spans, and no others but near some holes
 abbrev pub AreBetween : ℤ → List Span → List Span → List Span → Type 0

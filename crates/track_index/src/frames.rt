@@ -1,16 +1,19 @@
 //! The frames of a store in order of appending, in blocks.
 
-ghost use Rattle.std.specs.Prelude.{◌≡◌, ◌+◌, ◌<◌, ◌≤◌, length, take, drop, IfSome, None};
+ghost use Rattle.std.specs.Prelude.{◌≡◌, ◌+◌, ◌^◌, ◌<◌, ◌≤◌, ◌+ℤ◌, length, take, drop, IfSome, None};
 ghost use Rattle.std.specs.List.{AllByRecursion, list_any, position};
-ghost use Rattle.track_store.specs.Frames.{IsAscending, has_serial, from_sync, group_start_of};
+ghost use Rattle.track_store.specs.Frames.{IsAscending, IsTimed, has_serial, from_sync, group_start_of, bytes_of};
 ghost use Rattle.track_store.specs.Sound.{IsChained};
-ghost use Rattle.mse_base.specs.Rows.{row_items, row};
-ghost use Rattle.block_list.specs.BlockPlaces.{rank, IsPlace};
+ghost use Rattle.mse_base.specs.Time.{IsTick};
+ghost use Rattle.mse_base.specs.Rows.{row_items};
+ghost use Rattle.block_list.specs.BlockPlaces.{rank, IsPlace, IsItemPlace};
 ghost use Rattle.track_index.specs.Syncs.{AreSyncsOf};
+ghost use Rattle.track_index.specs.Runs.{IsRun, run_of_one, run_with};
 
+use crate::entry::{entry_of, span_of};
 use crate::syncs::last_up_to;
 use block_list::{BlockPlace, Change, Fact, RankedList, Test};
-use mse_base::Ticks;
+use mse_base::{Span, Ticks};
 use track_store::Stored;
 
 /// Nothing is asked of the frames of a block.
@@ -126,44 +129,77 @@ pub(crate) fn group_start(frames: &Frames, syncs: &[u64], i: usize) -> Option<us
     }
 }
 
-/// Some frames that stand side by side: the place of the last, and how many.
+/// Frames that stand side by side.
 #[derive(Clone, Copy)]
-pub(crate) struct RemovedRun {
+pub(crate) struct Run {
+    /// The place of the first.
+    pub(crate) from: BlockPlace,
+    /// The place of the last.
     pub(crate) last: BlockPlace,
     pub(crate) count: usize,
+    /// A span that has their presentation intervals.
+    pub(crate) hull: Span,
+    /// The bytes of their payloads.
+    pub(crate) bytes: u64,
+}
+
+impl Run {
+    /// One frame, at a place.
+    fn one(place: BlockPlace, stored: &Stored) -> Run
+        requires { IsTick (stored.now.frame.pts +ℤ stored.now.frame.dur) }
+        ensures { result ≡ run_of_one place stored.now }
+    {
+        Run {
+            from: place,
+            last: place,
+            count: 1,
+            hull: span_of(&entry_of(stored)),
+            bytes: stored.frame.payload.len() as u64,
+        }
+    }
+
+    /// With the frame behind the last, at a place.
+    fn with(self, place: BlockPlace, stored: &Stored) -> Run
+        requires timed { IsTick (stored.now.frame.pts +ℤ stored.now.frame.dur) }
+        requires count { self.count + 1 < 2 ^ 64 }
+        requires bytes { self.bytes + length stored.now.frame.payload < 2 ^ 64 }
+        ensures { result ≡ run_with self place stored.now }
+    {
+        let span = span_of(&entry_of(stored));
+        Run {
+            from: self.from,
+            last: place,
+            count: self.count + 1,
+            hull: Span {
+                start: self.hull.start.min(span.start),
+                end: self.hull.end.max(span.end),
+            },
+            bytes: self.bytes + stored.frame.payload.len() as u64,
+        }
+    }
 }
 
 /// A frame with those appended after it up to the next random access point.
-pub(crate) fn run_from(frames: &Frames, from: BlockPlace) -> RemovedRun
-    requires block { from.block < length frames.now.rows }
-    requires index { from.index < length (row frames.now.rows from.block) }
-    ensures block { result.last.block < length frames.now.rows }
-    ensures index { result.last.index < length (row frames.now.rows result.last.block) }
-    ensures count { rank frames.now.rows result.last + 1 ≡ rank frames.now.rows from
-        + result.count }
-    ensures some { 1 ≤ result.count }
+pub(crate) fn run_from(frames: &Frames, from: BlockPlace) -> Run
+    requires place { IsItemPlace frames.now.rows from }
+    requires timed { AllByRecursion IsTimed (row_items frames.now.rows) }
+    requires small { bytes_of (row_items frames.now.rows) < 2 ^ 62 }
+    ensures from { result.from ≡ from }
+    ensures run { IsRun frames.now.rows result }
     ensures rest { drop (rank frames.now.rows from + result.count) (row_items frames.now.rows)
         ≡ from_sync (drop (rank frames.now.rows from + 1) (row_items frames.now.rows)) }
 {
     // The proof reads off this that the number of all frames is one.
     let _len = frames.len();
-    let mut last = from;
-    let mut count = 1;
+    let mut run = Run::one(from, frames.item(from));
     let mut next = frames.next(from);
     while next.block < frames.blocks() {
-        if frames.item(next).frame.sync {
-            return RemovedRun { last, count };
+        let stored = frames.item(next);
+        if stored.frame.sync {
+            return run;
         }
-        last = next;
-        count += 1;
+        run = run.with(next, stored);
         next = frames.next(next);
     }
-    RemovedRun { last, count }
-}
-
-/// Some frames that stand side by side: the place of the first, and how many.
-#[derive(Clone, Copy)]
-pub(crate) struct Stretch {
-    pub(crate) from: BlockPlace,
-    pub(crate) count: usize,
+    run
 }

@@ -1,14 +1,15 @@
-ghost use Rattle.std.specs.Prelude.{◌≡◌, ◌+◌, ◌<◌, ◌≤◌, ◌≤ℤ◌, ◌++◌, pos, true, [], length, take, drop};
-ghost use Rattle.std.specs.List.{list_any};
+ghost use Rattle.std.specs.Prelude.{◌≡◌, ◌+◌, ◌<◌, ◌≤◌, ◌≤ℤ◌, pos, true, [], length, map};
+ghost use Rattle.std.specs.List.{AllByRecursion, list_any};
 ghost use Rattle.mse_base.specs.Spans.{IsBridging};
-ghost use Rattle.mse_base.specs.Rows.{row_items, row};
-ghost use Rattle.block_list.specs.BlockPlaces.{rank};
-ghost use Rattle.track_store.specs.Frames.{frames_without, IsAscending, has_serial, intervals, ranges_of, bytes_of};
-ghost use Rattle.track_index.specs.Order.{presentation_order};
+ghost use Rattle.mse_base.specs.Bridging.{bridged_ranges};
+ghost use Rattle.mse_base.specs.Rows.{row_items};
+ghost use Rattle.track_store.specs.Frames.{frames_without, IsAscending, IsTimed, has_serial, intervals, ranges_of};
+ghost use Rattle.track_index.specs.Order.{presentation_order, span_of};
+ghost use Rattle.track_index.specs.Runs.{IsRun, frames_out};
 ghost use Rattle.track_index.specs.Indexed.{IsNextKey};
 
 use crate::entry::{end_at, end_of, entry_of, span_of};
-use crate::frames::{Frames, NewDuration, Stretch, group_start, place_below, place_of, run_from};
+use crate::frames::{Frames, NewDuration, Run, group_start, place_below, place_of, run_from};
 use crate::key::Key;
 use crate::mark::TimeMark;
 use crate::order::Order;
@@ -31,9 +32,10 @@ const HALF: usize = 64;
 /// and the ranges. Only `reserve` and `copy_ranges` take memory.
 ///
 /// A call costs a search, work within one or two blocks, and at worst one look at what is known of
-/// each block; a removal costs that for each frame that goes; `add`, `cut` and removals move the
-/// ranges behind theirs, which are repaired near the hole alone. The group of a frame is found by
-/// searches alone. A removal leaves the serials of random access points as they are; those of
+/// each block; a removal costs that for each group of frames that goes, or for each frame of a group
+/// that other frames interrupt in order of presentation; `add`, `cut` and removals move the ranges
+/// behind theirs, which are repaired near the hole alone. The group of a frame is found by searches
+/// alone. A removal leaves the serials of random access points as they are; those of
 /// frames that are gone are dropped by `add` of a lower one, and by `reserve` where all are twice as
 /// many as the frames and 64 more.
 #[derive(Drop)]
@@ -72,34 +74,53 @@ impl Model for IndexStore {
     }) s.gap (s.ranges.spare + length s.ranges.spans) };
 }
 
-/// Takes some frames out of the order; the bytes that are left.
-fn take_run_out(order: &mut Order, frames: &Frames, run: Stretch, total: u64) -> u64
+/// Takes the frames of a run out of the order, one by one.
+fn take_out_each(order: &mut Order, frames: &Frames, run: &Run)
     requires ascending { IsAscending (row_items frames.now.rows) }
     requires in_order { row_items order.old.rows ≡ presentation_order (row_items frames.now.rows) }
-    requires bytes { total ≡ bytes_of (row_items frames.now.rows) }
-    requires block { run.from.block < length frames.now.rows }
-    requires index { run.from.index < length (row frames.now.rows run.from.block) }
-    requires within { rank frames.now.rows run.from + run.count ≤ length
-        (row_items frames.now.rows) }
+    requires run { IsRun frames.now.rows run.now }
     ensures in_order { row_items order.new.rows
-        ≡ presentation_order
-        (take (rank frames.now.rows run.from) (row_items frames.now.rows)
-        ++ drop (rank frames.now.rows run.from + run.count) (row_items frames.now.rows)) }
-    ensures bytes { result
-        ≡ bytes_of
-        (take (rank frames.now.rows run.from) (row_items frames.now.rows)
-        ++ drop (rank frames.now.rows run.from + run.count) (row_items frames.now.rows)) }
+        ≡ presentation_order (frames_out frames.now.rows run.now) }
     ensures no_room_lost { order.old.spare ≤ order.new.spare }
 {
-    let mut bytes_left = total;
     let mut place = run.from;
     for n in 0..run.count {
         let stored = frames.item(place);
         order.take_out(stored.frame.pts, stored.serial);
-        bytes_left -= stored.frame.payload.len() as u64;
         place = frames.next(place);
     }
-    bytes_left
+}
+
+/// Takes the frames of a run out of the order, and out of the ranges what no other frame has. Where
+/// they stand side by side in the order too, that is one removal and one repair.
+fn take_run_out(order: &mut Order, ranges: &mut Ranges, frames: &Frames, run: &Run, gap: Ticks)
+    requires gap_from_zero { pos 0 ≤ℤ gap }
+    requires ascending { IsAscending (row_items frames.now.rows) }
+    requires timed { AllByRecursion IsTimed (row_items frames.now.rows) }
+    requires in_order { row_items order.old.rows ≡ presentation_order (row_items frames.now.rows) }
+    requires joined { ranges.old.spans ≡ ranges_of gap (row_items frames.now.rows) }
+    requires room { length (row_items frames.now.rows) ≤ ranges.old.spare
+        + length ranges.old.spans }
+    requires run { IsRun frames.now.rows run.now }
+    ensures in_order { row_items order.new.rows
+        ≡ presentation_order (frames_out frames.now.rows run.now) }
+    ensures spans { ranges.new.spans ≡ bridged_ranges gap (map span_of (row_items order.new.rows)) }
+    ensures no_room_lost { order.old.spare ≤ order.new.spare }
+    ensures room { ranges.old.spare + length ranges.old.spans ≤ ranges.new.spare
+        + length ranges.new.spans }
+{
+    let first = frames.item(run.from).serial;
+    let last = frames.item(run.last).serial;
+    let key = Key {
+        mark: TimeMark::at(run.hull.start),
+        serial: first,
+    };
+    if order.take_out_run(&key, last, run.count) {
+        mend(ranges, order, run.hull, gap);
+        return;
+    }
+    take_out_each(order, frames, run);
+    mend_run(ranges, order, frames, run, gap);
 }
 
 impl IndexStore {
@@ -140,18 +161,11 @@ impl IndexStore {
     {
         let from = place_below(&self.items, serial);
         let run = run_from(&self.items, from);
-        let count = run.count;
-        let bytes_left = take_run_out(
+        take_run_out(
             &mut self.order,
-            &self.items,
-            Stretch { from, count },
-            self.total,
-        );
-        mend_run(
             &mut self.ranges,
-            &self.order,
             &self.items,
-            Stretch { from, count },
+            &run,
             self.gap,
         );
         // A block has few items, so the place behind one is a number.
@@ -161,7 +175,7 @@ impl IndexStore {
             index: run.last.index + 1,
         };
         self.items.remove_range(from, to);
-        self.total = bytes_left;
+        self.total -= run.bytes;
     }
 
     /// The serial of the first frame in order of presentation that is named, of those not before

@@ -2,12 +2,14 @@
 //!
 //! It stands on `mse_base`, `block_list` and `track_store`. Its main contract is that of the trait
 //! `track_store::FrameStore`, by the very clauses that the plain `ListStore` meets: [`IndexStore`]
-//! gives the same answers. What it keeps beside the frames (their order of presentation, serials of
-//! random access points, their ranges and the sum of their bytes) is `IsIndexed` of
-//! `specs/Indexed.antt`: at each call it is what it is of the frames held. Frames and order stand in blocks (`block_list`), and what is
-//! known of each block (`specs/Known.antt`, `specs/Tops.antt`) lets look-ups pass it whole.
+//! gives the same answers over every list of calls ([`alike::stores_alike`]). What it keeps beside
+//! the frames (their order of presentation, serials of random access points, their ranges and the
+//! sum of their bytes) is `IsIndexed` of `specs/Indexed.antt`: at each call it is what it is of the
+//! frames held. Frames and order stand in blocks (`block_list`), and what is known of each block
+//! (`specs/Known.antt`, `specs/Tops.antt`) lets look-ups pass it whole.
 #![tactic(auto)]
 
+pub mod alike;
 mod entry;
 mod frames;
 mod index_store;

@@ -1,14 +1,16 @@
 //! The frames of a store in order of presentation, in blocks.
 
-ghost use Rattle.std.specs.Prelude.{◌≡◌, ◌+◌, ◌<◌, ◌≤◌, ◌≤ℤ◌, false, true, length, take, drop, map, filter, not, min, vec_len, vec_capacity, OnOk, IfSome, IfNone, [], slice_index_or};
-ghost use Rattle.std.specs.List.{AllByRecursion, list_all, list_any};
+ghost use Rattle.std.specs.Prelude.{◌≡◌, ◌+◌, ◌-◌, ◌<◌, ◌≤◌, ◌≤ℤ◌, false, true, length, take, drop, map, filter, not, min, vec_len, vec_capacity, IfSome, IfNone, [], slice_index_or};
+ghost use Rattle.std.specs.List.{AllByRecursion, list_all};
 ghost use Rattle.mse_base.specs.Moments.{is_before};
 ghost use Rattle.mse_base.specs.Rows.{row_items, row, start};
-ghost use Rattle.block_list.specs.BlockPlaces.{rank, IsPlace};
+ghost use Rattle.block_list.specs.Rows.{IsReserved};
+ghost use Rattle.block_list.specs.BlockPlaces.{rank, IsPlace, IsItemPlace, IsItemAt, IsPlaceAfter};
 ghost use Rattle.track_index.specs.Order.{entries_with, is_in_entry, last_that, first_start, is_sync_from, last_start, with_entry_dur, is_ended};
-ghost use Rattle.track_index.specs.Keyed.{is_before_key, IsKeyed, IsFound, is_entry_named, has_entry_serial, IsNamedAt};
+ghost use Rattle.track_index.specs.Keyed.{is_before_key, IsKeyed, IsFound, is_entry_named, has_entry_serial, HasEntry, IsNamedAt};
 ghost use Rattle.track_index.specs.Known.{greatest_end};
 ghost use Rattle.track_index.specs.Tops.{tops_of};
+ghost use Rattle.track_index.specs.Runs.{is_serial_from, IsLastBetween};
 
 use crate::entry::{OrderEntry, is_in_entry, is_sync_from};
 use crate::key::Key;
@@ -45,12 +47,8 @@ impl Model for Order {
 
 /// The place of the entry of a serial.
 fn place_of(list: &BlockList<OrderEntry, Known>, pts: Ticks, serial: u64) -> BlockPlace
-    requires keyed { IsKeyed (row_items list.now.rows) }
-    requires at_pts { AllByRecursion (λ o. o.serial ≡ serial → o.pts ≡ pts)
-        (row_items list.now.rows) }
-    requires held { list_any (has_entry_serial serial) (row_items list.now.rows) ≡ true }
-    ensures block { result.block < length list.now.rows }
-    ensures index { result.index < length (row list.now.rows result.block) }
+    requires { HasEntry pts serial (row_items list.now.rows) }
+    ensures place { IsItemPlace list.now.rows result }
     ensures names { IsNamedAt serial (row_items list.now.rows) (rank list.now.rows result) }
 {
     let key = Key {
@@ -211,9 +209,7 @@ impl Order {
 
     /// Makes room for `n` more entries.
     pub(crate) fn reserve(&mut self, n: usize) -> Result<(), OutOfMemory>
-        ensures rows { self.new.rows ≡ self.old.rows }
-        ensures no_room_lost { self.old.spare ≤ self.new.spare }
-        ensures spare { OnOk result (n ≤ self.new.spare) }
+        ensures { IsReserved n result self.old self.new }
     {
         self.list.reserve(n)?;
         self.tops.reserve(n)?;
@@ -230,7 +226,7 @@ impl Order {
         let key = Key::at(TimeMark::after(entry.pts));
         if self.list.blocks() == 0 {
             self.list.push(entry);
-            refresh(&mut self.tops, &self.list, 0);
+            refresh(&mut self.tops, &self.list, 0, 0);
             return;
         }
         let place = search(&self.list, &key);
@@ -241,25 +237,78 @@ impl Order {
 
     /// Takes out the entry of a serial, which begins at `pts`.
     pub(crate) fn take_out(&mut self, pts: Ticks, serial: u64)
-        requires keyed { IsKeyed (row_items self.old.rows) }
-        requires at_pts { AllByRecursion (λ o. o.serial ≡ serial → o.pts ≡ pts)
-            (row_items self.old.rows) }
-        requires held { list_any (has_entry_serial serial) (row_items self.old.rows) ≡ true }
+        requires { HasEntry pts serial (row_items self.old.rows) }
         ensures items { row_items self.new.rows
             ≡ filter (λ o. not (has_entry_serial serial o)) (row_items self.old.rows) }
         ensures no_room_lost { self.old.spare ≤ self.new.spare }
     {
         let place = place_of(&self.list, pts, serial);
         self.list.remove(place);
-        refresh(&mut self.tops, &self.list, place.block);
+        refresh(&mut self.tops, &self.list, place.block, place.block);
+    }
+
+    /// The place of the last of `count` entries from a place on, where the serial of each lies
+    /// between two.
+    fn last_between(
+        &self,
+        from: BlockPlace,
+        low: u64,
+        high: u64,
+        count: usize,
+    ) -> Option<BlockPlace>
+        requires place { IsPlace self.now.rows from }
+        requires some { 0 < count }
+        ensures { IfSome result (λ s. IsLastBetween low high self.now.rows from count s) }
+    {
+        let blocks = self.blocks();
+        let mut last = from;
+        let mut place = from;
+        for n in 0..count {
+            if place.block >= blocks {
+                return None;
+            }
+            let serial = self.entry(place).serial;
+            if serial < low || serial > high {
+                return None;
+            }
+            last = place;
+            place = self.next(place);
+        }
+        Some(last)
+    }
+
+    /// Takes out the entries from a key on whose serials lie between that of the key and another,
+    /// where all of them stand side by side there; whether they did.
+    pub(crate) fn take_out_run(&mut self, key: &Key, high: u64, count: usize) -> bool
+        requires keyed { IsKeyed (row_items self.old.rows) }
+        requires some { 0 < count }
+        requires count { length (filter (is_serial_from key.now.serial high)
+            (row_items self.old.rows)) ≡ count }
+        ensures items { result ≡ true → row_items self.new.rows
+            ≡ filter (λ o. not (is_serial_from key.now.serial high o)) (row_items self.old.rows) }
+        ensures same { result ≡ false → row_items self.new.rows ≡ row_items self.old.rows }
+        ensures no_room_lost { self.old.spare ≤ self.new.spare }
+    {
+        let from = self.place_at(key);
+        match self.last_between(from, key.serial, high, count) {
+            None => false,
+            Some(last) => {
+                // A block has few entries, so the place behind one is a number.
+                let _few = self.list.block(last.block);
+                let to = BlockPlace {
+                    block: last.block,
+                    index: last.index + 1,
+                };
+                self.list.remove_range(from, to);
+                refresh(&mut self.tops, &self.list, from.block, to.block);
+                true
+            }
+        }
     }
 
     /// Gives the entry of a serial, which begins at `pts`, another duration.
     pub(crate) fn shorten(&mut self, pts: Ticks, serial: u64, dur: Ticks)
-        requires keyed { IsKeyed (row_items self.old.rows) }
-        requires at_pts { AllByRecursion (λ o. o.serial ≡ serial → o.pts ≡ pts)
-            (row_items self.old.rows) }
-        requires held { list_any (has_entry_serial serial) (row_items self.old.rows) ≡ true }
+        requires { HasEntry pts serial (row_items self.old.rows) }
         ensures items { row_items self.new.rows
             ≡ map (with_entry_dur serial dur) (row_items self.old.rows) }
         ensures no_room_lost { self.old.spare ≤ self.new.spare }
@@ -273,7 +322,7 @@ impl Order {
             sync: entry.sync,
         };
         self.list.set(place, shorter);
-        refresh(&mut self.tops, &self.list, place.block);
+        refresh(&mut self.tops, &self.list, place.block, place.block);
     }
 
     /// The last entry that holds a time.
@@ -310,9 +359,12 @@ impl Order {
         }
     }
 
-    /// Where the last entry begins.
-    pub(crate) fn last_start(&self) -> Option<Ticks>
-        ensures { result ≡ last_start (row_items self.now.rows) }
+    /// The last entry.
+    fn last_entry(&self) -> Option<OrderEntry>
+        ensures last { IfSome result (λ o. (0 < length (row_items self.now.rows))
+            × (o ≡ slice_index_or (row_items self.now.rows)
+            (length (row_items self.now.rows) - 1) o)) }
+        ensures none { IfNone result (row_items self.now.rows ≡ []) }
     {
         let n = self.list.blocks();
         if n == 0 {
@@ -321,11 +373,22 @@ impl Order {
         // No block is empty.
         let _spare = self.list.spare();
         let index = self.list.block(n - 1).len() - 1;
-        let entry = self.list.item(BlockPlace {
-            block: n - 1,
-            index,
-        });
-        Some(entry.pts)
+        Some(
+            *self.list.item(BlockPlace {
+                block: n - 1,
+                index,
+            }),
+        )
+    }
+
+    /// Where the last entry begins.
+    pub(crate) fn last_start(&self) -> Option<Ticks>
+        ensures { result ≡ last_start (row_items self.now.rows) }
+    {
+        match self.last_entry() {
+            Some(entry) => Some(entry.pts),
+            None => None,
+        }
     }
 
     /// The greatest end.
@@ -367,8 +430,7 @@ impl Order {
 
     /// The place of the first entry.
     pub(crate) fn start(&self) -> BlockPlace
-        ensures place { IsPlace self.now.rows result }
-        ensures rank { rank self.now.rows result ≡ 0 }
+        ensures { IsPlaceAfter self.now.rows 0 result }
     {
         // No block is empty.
         let _spare = self.list.spare();
@@ -384,20 +446,16 @@ impl Order {
 
     /// The entry at a place.
     pub(crate) fn entry(&self, place: BlockPlace) -> OrderEntry
-        requires block { place.block < length self.now.rows }
-        requires index { place.index < length (row self.now.rows place.block) }
-        ensures { result ≡ slice_index_or (row_items self.now.rows)
-            (rank self.now.rows place) result }
+        requires { IsItemPlace self.now.rows place }
+        ensures { IsItemAt self.now.rows place result }
     {
         *self.list.item(place)
     }
 
     /// The place behind that of an entry.
     pub(crate) fn next(&self, place: BlockPlace) -> BlockPlace
-        requires block { place.block < length self.now.rows }
-        requires index { place.index < length (row self.now.rows place.block) }
-        ensures rank { rank self.now.rows result ≡ rank self.now.rows place + 1 }
-        ensures place { IsPlace self.now.rows result }
+        requires { IsItemPlace self.now.rows place }
+        ensures { IsPlaceAfter self.now.rows (rank self.now.rows place + 1) result }
     {
         self.list.next(place)
     }
@@ -407,18 +465,10 @@ impl Order {
         requires keyed { IsKeyed (row_items self.now.rows) }
         ensures { result ≡ list_all (is_before_key key.now) (row_items self.now.rows) }
     {
-        let n = self.list.blocks();
-        if n == 0 {
-            return true;
+        match self.last_entry() {
+            Some(entry) => key.is_passed_by(&entry),
+            None => true,
         }
-        // No block is empty.
-        let _spare = self.list.spare();
-        let index = self.list.block(n - 1).len() - 1;
-        let entry = self.list.item(BlockPlace {
-            block: n - 1,
-            index,
-        });
-        key.is_passed_by(entry)
     }
 
     /// The first entry not before a key that begins before a moment and has a serial below a

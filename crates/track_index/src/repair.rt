@@ -1,17 +1,17 @@
 //! The ranges of a store, repaired where its frames changed.
 
-ghost use Rattle.std.specs.Prelude.{◌≡◌, ◌+◌, ◌<◌, ◌≤◌, ◌≤ℤ◌, pos, true, ◌||◌, List, ◌∷◌, length, map, take, drop, IfSome, ℤ};
+ghost use Rattle.std.specs.Prelude.{◌≡◌, ◌+◌, ◌<◌, ◌≤◌, ◌≤ℤ◌, pos, true, ◌||◌, List, ◌∷◌, length, map, IfSome, ℤ};
 ghost use Rattle.std.specs.List.{AllByRecursion};
 ghost use Rattle.mse_base.specs.Bridging.{IsRanges, bridged_ranges, is_near_any, is_near};
-ghost use Rattle.mse_base.specs.Rows.{row_items, row};
-ghost use Rattle.block_list.specs.BlockPlaces.{rank};
+ghost use Rattle.mse_base.specs.Rows.{row_items};
 ghost use Rattle.track_store.specs.Frames.{intervals, IsTimed};
 ghost use Rattle.track_index.specs.Order.{span_of};
 ghost use Rattle.track_index.specs.Keyed.{IsKeyed};
-ghost use Rattle.track_index.specs.Repair.{AreTimed, AreGrownBy, HasTicksBetween, HasTicksPast, AreBetween};
+ghost use Rattle.track_index.specs.Repair.{AreTimed, AreRepairable, AreGrownBy, HasTicksBetween, HasTicksPast, AreBetween};
+ghost use Rattle.track_index.specs.Runs.{IsRun, frames_in};
 
 use crate::entry::{entry_of, span_of};
-use crate::frames::{Frames, Stretch};
+use crate::frames::{Frames, Run};
 use crate::key::Key;
 use crate::mark::TimeMark;
 use crate::order::Order;
@@ -148,11 +148,8 @@ fn refill(ranges: &mut Ranges, order: &Order, key: &Key, high: TimeMark, gap: Ti
 /// Repairs the ranges after what was there in a span of time changed: what lies there, and within
 /// the gap of it, is taken out, and what the frames have there is joined in again.
 pub(crate) fn mend(ranges: &mut Ranges, order: &Order, hole: Span, gap: Ticks)
-    requires gap_from_zero { pos 0 ≤ℤ gap }
-    requires ranges { IsRanges gap ranges.old.spans }
-    requires room { length (row_items order.now.rows) ≤ ranges.old.spare + length ranges.old.spans }
-    requires keyed { IsKeyed (row_items order.now.rows) }
-    requires timed { AreTimed (row_items order.now.rows) }
+    requires { AreRepairable gap (row_items order.now.rows) ranges.old.spans
+        (ranges.old.spare + length ranges.old.spans) }
     ensures ranges { IsRanges gap ranges.new.spans }
     ensures room { ranges.old.spare + length ranges.old.spans ≤ ranges.new.spare
         + length ranges.new.spans }
@@ -176,27 +173,13 @@ pub(crate) fn mend(ranges: &mut Ranges, order: &Order, hole: Span, gap: Ticks)
 }
 
 /// Repairs the ranges where some frames were that are no more in the order.
-pub(crate) fn mend_run(
-    ranges: &mut Ranges,
-    order: &Order,
-    frames: &Frames,
-    run: Stretch,
-    gap: Ticks,
-)
-    requires gap_from_zero { pos 0 ≤ℤ gap }
-    requires ranges { IsRanges gap ranges.old.spans }
-    requires room { length (row_items order.now.rows) ≤ ranges.old.spare + length ranges.old.spans }
-    requires keyed { IsKeyed (row_items order.now.rows) }
-    requires timed { AreTimed (row_items order.now.rows) }
+pub(crate) fn mend_run(ranges: &mut Ranges, order: &Order, frames: &Frames, run: &Run, gap: Ticks)
+    requires repairable { AreRepairable gap (row_items order.now.rows) ranges.old.spans
+        (ranges.old.spare + length ranges.old.spans) }
     requires frames { AllByRecursion IsTimed (row_items frames.now.rows) }
-    requires block { run.from.block < length frames.now.rows }
-    requires index { run.from.index < length (row frames.now.rows run.from.block) }
-    requires within { rank frames.now.rows run.from + run.count ≤ length
-        (row_items frames.now.rows) }
+    requires run { IsRun frames.now.rows run.now }
     requires between { AreBetween gap (map span_of (row_items order.now.rows))
-        (intervals (take run.count (drop (rank frames.now.rows run.from)
-        (row_items frames.now.rows))))
-        ranges.old.spans }
+        (intervals (frames_in frames.now.rows run.now)) ranges.old.spans }
     ensures spans { ranges.new.spans ≡ bridged_ranges gap (map span_of (row_items order.now.rows)) }
     ensures room { ranges.old.spare + length ranges.old.spans ≤ ranges.new.spare
         + length ranges.new.spans }

@@ -5,12 +5,12 @@ ghost use Rattle.std.specs.Prelude.{◌≡◌, ◌+◌, ◌-◌, ◌<◌, ◌≤
 ghost use Rattle.mse_base.specs.Rows.{row_items};
 ghost use Rattle.mse_base.specs.Moments.{greatest_of_two};
 ghost use Rattle.track_index.specs.Known.{greatest_end};
-ghost use Rattle.track_index.specs.Tops.{tops_of, AreTopsFrom};
+ghost use Rattle.track_index.specs.Tops.{tops_of, AreTopsFrom, AreTopsMendable};
 
 use crate::entry::OrderEntry;
 use crate::known::Known;
 use crate::mark::TimeMark;
-use block_list::BlockList;
+use block_list::{BlockList, take_out};
 
 /// The running end of the block before one.
 pub(crate) fn top_before(
@@ -62,17 +62,19 @@ fn follow(
     }
 }
 
-/// Makes as many ends as there are blocks, after block `b` was cut in two or went.
-fn adjust(tops: &mut Vec<Option<TimeMark>>, b: usize, after: usize)
+/// Makes as many ends as there are blocks, after those from `b` up to before `behind` came to be
+/// others: one was cut in two, or some went.
+fn adjust(tops: &mut Vec<Option<TimeMark>>, b: usize, behind: usize, after: usize)
     requires within { b ≤ length tops.old.items }
+    requires some { b < behind }
     requires at_most_one_more { after ≤ length tops.old.items + 1 }
-    requires at_most_one_fewer { length tops.old.items ≤ after + 1 }
-    requires gone { after < length tops.old.items → b < length tops.old.items }
+    requires at_most_touched_gone { b + length tops.old.items ≤ behind + after }
+    requires gone { after < length tops.old.items → behind ≤ length tops.old.items }
     requires room { after ≤ vec_capacity tops.old }
     ensures len { length tops.new.items ≡ after }
     ensures front { take b tops.new.items ≡ take b tops.old.items }
-    ensures rest { drop ((b + 1 + after) - length tops.old.items) tops.new.items
-        ≡ drop (b + 1) tops.old.items }
+    ensures rest { drop ((behind + after) - length tops.old.items) tops.new.items
+        ≡ drop behind tops.old.items }
     ensures capacity { vec_capacity tops.new ≡ vec_capacity tops.old }
 {
     let before = tops.len();
@@ -83,9 +85,7 @@ fn adjust(tops: &mut Vec<Option<TimeMark>>, b: usize, after: usize)
         }
         return;
     }
-    if after < before {
-        tops.remove(b);
-    }
+    take_out(tops, b, b + (before - after));
 }
 
 /// Makes the running ends anew after an entry that ends at `end` came into block `b`, which may
@@ -96,14 +96,8 @@ pub(crate) fn refresh_with(
     b: usize,
     end: TimeMark,
 )
-    requires within { b ≤ length tops.old.items }
-    requires at_most_one_more { length list.now.rows ≤ length tops.old.items + 1 }
-    requires at_most_one_fewer { length tops.old.items ≤ length list.now.rows + 1 }
-    requires gone { length list.now.rows < length tops.old.items → b < length tops.old.items }
-    requires room { length list.now.rows ≤ vec_capacity tops.old }
-    requires front { take b tops.old.items ≡ take b (tops_of list.now.rows) }
-    requires rest { AreTopsFrom (b + 1) tops.old.items
-        ((b + 1 + length list.now.rows) - length tops.old.items) list.now.rows }
+    requires mendable { AreTopsMendable tops.old.items list.now.rows b (b + 1)
+        (vec_capacity tops.old) }
     requires last { b + 1 ≡ length tops.old.items
         → greatest_of_two (slice_index_or tops.old.items b None) (Some end)
         ≡ greatest_end (row_items list.now.rows) }
@@ -116,29 +110,24 @@ pub(crate) fn refresh_with(
         tops[b] = tops[b].max(Some(end));
         return;
     }
-    refresh(tops, list, b);
+    refresh(tops, list, b, b);
 }
 
-/// Makes the running ends anew after a change in block `b`, which may have been cut in two or
-/// have gone.
+/// Makes the running ends anew after the blocks from `b` up to `last` changed: one may have been cut
+/// in two, or some have gone.
 pub(crate) fn refresh(
     tops: &mut Vec<Option<TimeMark>>,
     list: &BlockList<OrderEntry, Known>,
     b: usize,
+    last: usize,
 )
-    requires within { b ≤ length tops.old.items }
-    requires at_most_one_more { length list.now.rows ≤ length tops.old.items + 1 }
-    requires at_most_one_fewer { length tops.old.items ≤ length list.now.rows + 1 }
-    requires gone { length list.now.rows < length tops.old.items → b < length tops.old.items }
-    requires room { length list.now.rows ≤ vec_capacity tops.old }
-    requires front { take b tops.old.items ≡ take b (tops_of list.now.rows) }
-    requires rest { AreTopsFrom (b + 1) tops.old.items
-        ((b + 1 + length list.now.rows) - length tops.old.items) list.now.rows }
+    requires { AreTopsMendable tops.old.items list.now.rows b (last + 1) (vec_capacity tops.old) }
     ensures items { tops.new.items ≡ tops_of list.now.rows }
     ensures capacity { vec_capacity tops.new ≡ vec_capacity tops.old }
 {
-    let before = tops.len();
     let after = list.blocks();
-    adjust(tops, b, after);
-    follow(tops, list, b, (b + 1 + after) - before);
+    let before = tops.len();
+    let behind = last + 1;
+    adjust(tops, b, behind, after);
+    follow(tops, list, b, (behind + after) - before);
 }

@@ -1,5 +1,5 @@
 use Rattle.std.proofs.Common.{◌∙◌, set, get_or, ap}
-use Rattle.block_list.proofs.Joining.{row_is}
+use Rattle.block_list.proofs.RowItems.{row_is}
 use Rattle.block_list.proofs.block_list.change_in.Goals as goal
 
 pub change-requires : goal.change-requires

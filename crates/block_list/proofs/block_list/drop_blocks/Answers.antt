@@ -1,8 +1,8 @@
 use Rattle.std.proofs.Common.{◌≡◌, ◌∙◌, ◌≤◌, ◌-◌, ◌++◌, ℕ, suc, List, length, take, drop, remove, vec_capacity, ap, sym, arith, take-append-drop}
 use Rattle.std.proofs.lemmas.List.{length-take-le, length-append}
 use Rattle.mse_base.specs.Rows.{row_items}
-use Rattle.block_list.proofs.Joining.{less_rows, less_items}
-use Rattle.block_list.proofs.Keeping.{listed_less, one_more}
+use Rattle.block_list.proofs.RowItems.{less_rows, less_items}
+use Rattle.block_list.proofs.KeptRows.{listed_less, one_more}
 use Rattle.block_list.proofs.block_list.drop_blocks.Goals as goal
 
 pub dropping-init : goal.dropping-init

@@ -2,7 +2,7 @@ use Rattle.std.proofs.Common.{◌≡◌, ◌∙◌, ◌+◌, ◌-◌, ◌*◌, �
 use Rattle.std.proofs.lemmas.List.{length-take-le}
 use Rattle.mse_base.specs.Rows.{row, start, split_row}
 use Rattle.block_list.specs.Rows.{AreShort}
-use Rattle.block_list.proofs.Joining.{apart_left, apart_right, IsAddedByCut, left_row, right_row, length_split, split_last}
+use Rattle.block_list.proofs.RowItems.{apart_left, apart_right, IsAddedByCut, left_row, right_row, length_split, split_last}
 use Rattle.block_list.proofs.block_list.put_apart.Goals as goal
 
 pub put_in-requires-clause-block : goal.put_in-requires-clause-block

@@ -1,5 +1,5 @@
 use Rattle.std.proofs.Common.{◌∙◌, set, ap}
-use Rattle.block_list.proofs.Joining.{row_is}
+use Rattle.block_list.proofs.RowItems.{row_is}
 use Rattle.block_list.proofs.block_list.set_in.Goals as goal
 
 pub set-requires : goal.set-requires

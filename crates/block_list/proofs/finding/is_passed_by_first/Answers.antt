@@ -1,5 +1,5 @@
 use Rattle.std.proofs.Common.{length, ap, arith}
-use Rattle.block_list.proofs.Cutting.{row_passed, row_failed, some_row}
+use Rattle.block_list.proofs.TestedFronts.{row_passed, row_failed, some_row}
 use Rattle.block_list.proofs.finding.is_passed_by_first.Goals as goal
 
 pub bounds-items-0 : goal.bounds-items-0

@@ -2,8 +2,8 @@ use Rattle.std.proofs.Common.{◌≡◌, ◌+◌, ◌-◌, ◌<◌, ◌≤◌, �
 use Rattle.std.specs.List.{AllByRecursion}
 use Rattle.std.proofs.lemmas.List.{drop_all}
 use Rattle.mse_base.specs.Rows.{row_items, start}
-use Rattle.block_list.proofs.Joining.{start_more, start_all}
-use Rattle.block_list.proofs.Cutting.{some_row, passed, failed}
+use Rattle.block_list.proofs.RowItems.{start_more, start_all}
+use Rattle.block_list.proofs.TestedFronts.{some_row, passed, failed}
 use Rattle.block_list.proofs.finding.place_near_end.Goals as goal
 
 pub overflow_sub-last : goal.overflow_sub-last
@@ -16,15 +16,20 @@ overflow_sub-last g c =
     let long = ap length c.block-len.ensures.value in
     omega (arith, some, long)
 
-pub item-requires-clause-index : goal.item-requires-clause-index
-item-requires-clause-index g c =
+pub item-requires : goal.item-requires
+item-requires g c =
     let rows = c.args.list.now.rows in
     let n = c.blocks-blocks.result in
     let b = n - 1 in
     let l : b < length rows = omega (arith, c.blocks-blocks.ensures, c.if-blocks-eq0.false) in
     let some = some_row rows b c.requires.none_empty l in
     let long = ap length c.block-len.ensures.value in
-    omega (arith, some, long)
+    record { block = l; index = omega (arith, some, long) }
+
+pub item-requires-then-len-gt1 : goal.item-requires-then-len-gt1
+item-requires-then-len-gt1 g c =
+    let l : c.blocks-blocks.result - 1 < length c.args.list.now.rows = omega (arith, c.blocks-blocks.ensures, c.if-blocks-eq0.false) in
+    record { block = l; index = omega (arith, c.if-len-gt1.true, ap length c.block-len.ensures.value) }
 
 pub returns-then-is_passed_by-clause-before : goal.returns-then-is_passed_by-clause-before
 returns-then-is_passed_by-clause-before g c =

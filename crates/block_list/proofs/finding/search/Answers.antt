@@ -1,8 +1,8 @@
 use Rattle.std.proofs.Common.{◌≡◌, ◌+◌, ◌-◌, ◌∷◌, ◌<◌, ◌++◌, ℕ, List, [], true, false, take, drop, length, subst, ap, arith}
 use Rattle.std.specs.List.{AllByRecursion}
 use Rattle.mse_base.specs.Rows.{row_items, row}
-use Rattle.block_list.proofs.Cutting.{cut_row}
-use Rattle.block_list.proofs.Ranging.{take_at, drop_at}
+use Rattle.block_list.proofs.TestedFronts.{cut_row}
+use Rattle.block_list.proofs.RemovedStretch.{take_at, drop_at}
 use Rattle.block_list.proofs.finding.search.Goals as goal
 
 pub place_in-index-requires : goal.place_in-index-requires

@@ -1,7 +1,7 @@
 use Rattle.std.proofs.Common.{◌≡◌, ◌∙◌, ◌-◌, ◌<◌, length, get_or, arith}
 use Rattle.std.proofs.lemmas.List.{length-set}
 use Rattle.block_list.specs.Starts.{starts_of}
-use Rattle.block_list.proofs.Starting.{length_starts, start_at, kept_high, lower_rest, written_front}
+use Rattle.block_list.proofs.RowStarts.{length_starts, start_at, kept_high, lower_rest, written_front}
 use Rattle.block_list.proofs.ranked.lower.Goals as goal
 
 pub overflow_sub-index_mut : goal.overflow_sub-index_mut

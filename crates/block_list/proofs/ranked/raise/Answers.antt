@@ -1,7 +1,7 @@
 use Rattle.std.proofs.Common.{◌≡◌, ◌∙◌, ◌+◌, ◌-◌, ◌<◌, length, get_or, arith}
 use Rattle.std.proofs.lemmas.List.{length-set}
 use Rattle.block_list.specs.Starts.{starts_of}
-use Rattle.block_list.proofs.Starting.{length_starts, start_at, start_before, kept_low, raise_front, raise_rest}
+use Rattle.block_list.proofs.RowStarts.{length_starts, start_at, start_before, kept_low, raise_front, raise_rest}
 use Rattle.block_list.proofs.ranked.raise.Goals as goal
 
 pub overflow_add-index_mut : goal.overflow_add-index_mut

@@ -1,9 +1,9 @@
 use Rattle.std.proofs.Common.{◌∙◌, ◌<◌, length, ap, arith}
 use Rattle.std.proofs.lemmas.List.{length-set, drop-set-lt}
 use Rattle.block_list.specs.Starts.{starts_of}
-use Rattle.block_list.proofs.Joining.{start_more}
-use Rattle.block_list.proofs.Ranging.{row_count}
-use Rattle.block_list.proofs.Starting.{length_starts, start_at, written_front}
+use Rattle.block_list.proofs.RowItems.{start_more}
+use Rattle.block_list.proofs.RemovedStretch.{row_count}
+use Rattle.block_list.proofs.RowStarts.{length_starts, start_at, written_front}
 use Rattle.block_list.proofs.ranked.restart.Goals as goal
 
 pub overflow_add-count : goal.overflow_add-count

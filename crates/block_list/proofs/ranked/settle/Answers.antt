@@ -1,14 +1,14 @@
 use Rattle.std.proofs.Common.{◌≡◌, ◌∙◌, ◌<◌, length, arith}
 use Rattle.block_list.specs.Starts.{starts_of}
-use Rattle.block_list.proofs.Joining.{start_all}
-use Rattle.block_list.proofs.Starting.{length_starts, start_at, kept_high}
+use Rattle.block_list.proofs.RowItems.{start_all}
+use Rattle.block_list.proofs.RowStarts.{length_starts, start_at, kept_high}
 use Rattle.block_list.proofs.ranked.settle.Goals as goal
 
-pub lower-requires-clause-len : goal.lower-requires-clause-len
-lower-requires-clause-len g c = c.requires.starts.long ∙ length_starts 0 c.args.list.now.rows
+pub lower-requires-clause-starts : goal.lower-requires-clause-starts
+lower-requires-clause-starts g c = let h = c.requires.starts in record { len = h.long ∙ length_starts 0 c.args.list.now.rows; front = h.front; rest = h.rest }
 
-pub raise-requires-clause-len : goal.raise-requires-clause-len
-raise-requires-clause-len g c = c.requires.starts.long ∙ length_starts 0 c.args.list.now.rows
+pub raise-requires-clause-starts : goal.raise-requires-clause-starts
+raise-requires-clause-starts g c = let h = c.requires.starts in record { len = h.long ∙ length_starts 0 c.args.list.now.rows; front = h.front; rest = h.rest }
 
 pub raise-requires-clause-within : goal.raise-requires-clause-within
 raise-requires-clause-within g c = omega (arith, c.requires.starts.within, length_starts 0 c.args.list.now.rows)
@@ -25,8 +25,8 @@ raise-requires-clause-fits g c =
     let at = c.index-first.ensures ∙ kept_high ks (starts_of rows) c.args.settled c.args.excess c.args.settled v (omega arith) k (omega (arith, n)) h.rest in
     omega (arith, at, start_at 0 rows c.args.settled v l, c.type_inv._first.fits)
 
-pub raise-requires-2-clause-len : goal.raise-requires-2-clause-len
-raise-requires-2-clause-len g c = c.requires.starts.long ∙ length_starts 0 c.args.list.now.rows
+pub raise-requires-2-clause-starts : goal.raise-requires-2-clause-starts
+raise-requires-2-clause-starts g c = let h = c.requires.starts in record { len = h.long ∙ length_starts 0 c.args.list.now.rows; front = h.front; rest = h.rest }
 
 pub raise-requires-2-clause-within : goal.raise-requires-2-clause-within
 raise-requires-2-clause-within g c = omega (arith, c.requires.starts.within, length_starts 0 c.args.list.now.rows)

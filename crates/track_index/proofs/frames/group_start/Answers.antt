@@ -1,6 +1,6 @@
 use Rattle.std.proofs.Common.{◌≡◌, ◌∙◌, ◌<◌, ℕ, inl, inr, length, get_or, ap, arith}
 use Rattle.mse_base.specs.Rows.{row_items}
-use Rattle.track_index.proofs.Grouping.{IsPlaceUpTo, group_found, group_there}
+use Rattle.track_index.proofs.FrameGroups.{IsPlaceUpTo, group_found, group_there}
 use Rattle.track_index.proofs.frames.group_start.Goals.{then-i-len, else-i-len}
 use Rattle.track_index.proofs.frames.group_start.Goals as goal
 

@@ -1,7 +1,7 @@
 use Rattle.std.proofs.Common.{◌∙◌, ap, is_some}
 use Rattle.mse_base.specs.Rows.{row_items}
 use Rattle.track_store.specs.Frames.{has_serial}
-use Rattle.track_index.proofs.Grouping.{any_position}
+use Rattle.track_index.proofs.FrameGroups.{any_position}
 use Rattle.track_index.proofs.frames.is_held.Goals as goal
 
 pub returns : goal.returns

@@ -3,7 +3,7 @@ use Rattle.std.specs.List.{AllByRecursion}
 use Rattle.mse_base.specs.Rows.{row_items}
 use Rattle.block_list.specs.BlockPlaces.{rank}
 use Rattle.track_index.specs.declared.frames.SerialBelow.{SerialBelow}
-use Rattle.track_index.proofs.Removing.{cut_below, lows_of, highs_of}
+use Rattle.track_index.proofs.RemovedRuns.{cut_below, lows_of, highs_of}
 use Rattle.track_index.proofs.frames.place_below.Goals as goal
 
 pub search-place-requires : goal.search-place-requires

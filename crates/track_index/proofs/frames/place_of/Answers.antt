@@ -1,7 +1,7 @@
 use Rattle.std.proofs.Common.{◌∙◌, ◌<◌, ◌≤◌, ℕ, Some, length, ap, arith}
 use Rattle.mse_base.specs.Rows.{row_items}
 use Rattle.block_list.specs.BlockPlaces.{rank}
-use Rattle.track_index.proofs.Framing.{serial_found, serial_other, serial_past}
+use Rattle.track_index.proofs.FrameLookUps.{serial_found, serial_other, serial_past}
 use Rattle.track_index.proofs.Blocks.{rank_within}
 use Rattle.track_index.proofs.frames.place_of.Goals as goal
 

@@ -1,102 +1,105 @@
-use Rattle.std.proofs.Common.{◌≡◌, ◌∙◌, ◌<◌, ◌+◌, ◌++◌, ◌∷◌, ℕ, not, length, take, drop, get_or, filter, ap, sym, subst, arith}
-use Rattle.std.specs.List.{AllByRecursion, list_any}
-use Rattle.std.proofs.lemmas.List.{take-append-drop}
+use Rattle.std.proofs.Common.{◌≡◌, ◌∙◌, ◌+◌, ◌++◌, List, [], not, length, take, drop, map, filter, ap, sym, subst, arith}
 use Rattle.mse_base.specs.Rows.{row_items}
 use Rattle.block_list.specs.BlockPlaces.{rank}
-use Rattle.track_store.specs.Frames.{IsAscending, bytes_of}
+use Rattle.track_store.specs.Frames.{intervals, IsTimed}
+use Rattle.track_store.proofs.Listing.{are_ranges}
 use Rattle.track_index.specs.declared.entry.OrderEntry.{OrderEntry}
-use Rattle.track_index.specs.Order.{presentation_order}
-use Rattle.track_index.specs.Keyed.{IsKeyed, has_entry_serial}
-use Rattle.track_index.proofs.Keys.{keyed_ordered}
-use Rattle.track_index.proofs.Removing.{first_place, without_more, ascending_without, own_pts, held_mid, order_without, bytes_mid}
-use Rattle.track_index.proofs.Blocks.{item_place}
+use Rattle.track_index.specs.Order.{presentation_order, span_of}
+use Rattle.track_index.specs.Repair.{AreBetween}
+use Rattle.track_index.specs.Runs.{is_serial_from}
+use Rattle.track_index.proofs.EntryOrder.{length_ordered}
+use Rattle.track_index.proofs.Keys.{keyed_of}
+use Rattle.track_index.proofs.KeptStore.{timed_entries}
+use Rattle.track_index.proofs.MendedRanges.{between_within, between_none}
+use Rattle.track_index.proofs.RemovedRuns.{length_without, ascending_without, each_without, between_run}
+use Rattle.track_index.proofs.Runs.{run_within, run_of_serials, run_count, run_out}
 use Rattle.track_index.proofs.index_store.take_run_out.Goals as goal
 
-pub loop-n-init : goal.loop-n-init
-loop-n-init c =
-    let fs = row_items c.args.frames.now.rows in
-    let i = rank c.args.frames.now.rows c.args.run.from in
-    let z : i + 0 ≡ i = omega arith in
-    let whole : take i fs ++ drop (i + 0) fs ≡ fs = ap (λ (k : ℕ). take i fs ++ drop k fs) z ∙ take-append-drop i fs in
-    record {
-      place = first_place c.args.frames.now.rows c.args.run.from c.requires.block c.requires.index;
-      next = omega arith;
-      order = c.requires.in_order ∙ ap presentation_order (sym whole);
-      bytes = c.requires.bytes ∙ ap bytes_of (sym whole);
-      spare = omega arith;
-    }
+pub item-requires : goal.item-requires
+item-requires c = record { block = c.requires.run.block; index = c.requires.run.index }
 
-pub item-stored-requires : goal.item-stored-requires
-item-stored-requires c =
-    let rows = c.args.frames.now.rows in
-    let k : rank rows c.loop-n.place < length (row_items rows) = omega (arith, c.loop-n.invariant.next, c.requires.within) in
-    let p = item_place rows c.loop-n.place c.loop-n.invariant.place k in
-    record { block = p.0; index = p.1 }
+pub item-requires-2 : goal.item-requires-2
+item-requires-2 c = record { block = c.requires.run.last_block; index = c.requires.run.last_index }
 
-pub take_out-requires : goal.take_out-requires
-take_out-requires c =
+pub take_out_run-requires : goal.take_out_run-requires
+take_out_run-requires c =
     let rows = c.args.frames.now.rows in
     let fs = row_items rows in
-    let i = rank rows c.args.run.from in
-    let n = c.loop-n.n in
-    let x = c.item-stored.result.now in
-    let ys = drop (i + (n + 1)) fs in
-    let at : x ≡ get_or fs (i + n) x = c.item-stored.ensures ∙ ap (λ (k : ℕ). get_or fs k x) c.loop-n.invariant.next in
-    let e = without_more fs i n x (omega (arith, c.requires.within)) at in
-    let u = subst IsAscending e (ascending_without fs i (i + n) (omega arith) c.requires.ascending) in
-    let o = c.loop-n.invariant.order ∙ ap presentation_order e in
+    let run = c.args.run.now in
+    let h = run_of_serials rows run c.item.result.now c.item-2.result.now c.requires.ascending c.requires.run c.item.ensures c.item-2.ensures in
     record {
-      keyed = subst IsKeyed (sym o) (keyed_ordered (take i fs ++ x ∷ ys) u);
-      at_pts = subst (λ os. AllByRecursion (λ p. p.serial ≡ x.serial → p.pts ≡ x.frame.pts) os) (sym o) (own_pts (take i fs) x ys u);
-      held = ap (list_any (has_entry_serial x.serial)) o ∙ held_mid (take i fs) x ys;
+      keyed = keyed_of (row_items c.args.order.now.rows) fs c.requires.in_order c.requires.ascending;
+      some = c.requires.run.some;
+      count = ap (λ (os : List OrderEntry). length (filter (is_serial_from c.item.result.now.serial c.item-2.result.now.serial) os)) c.requires.in_order ∙ run_count fs (rank rows run.from) run.count c.item.result.now.serial c.item-2.result.now.serial (run_within rows run c.requires.run) h;
     }
 
-pub overflow_sub-bytes_left : goal.overflow_sub-bytes_left
-overflow_sub-bytes_left c =
+pub mend-requires : goal.mend-requires
+mend-requires c =
     let rows = c.args.frames.now.rows in
     let fs = row_items rows in
-    let i = rank rows c.args.run.from in
-    let n = c.loop-n.n in
-    let x = c.item-stored.result.now in
-    let ys = drop (i + (n + 1)) fs in
-    let at : x ≡ get_or fs (i + n) x = c.item-stored.ensures ∙ ap (λ (k : ℕ). get_or fs k x) c.loop-n.invariant.next in
-    let e = ap bytes_of (without_more fs i n x (omega (arith, c.requires.within)) at) in
-    omega (arith, c.loop-n.invariant.bytes, e, bytes_mid (take i fs) x ys, c.len.ensures)
-
-pub next-place-requires : goal.next-place-requires
-next-place-requires c =
-    let rows = c.args.frames.now.rows in
-    let k : rank rows c.loop-n.place < length (row_items rows) = omega (arith, c.loop-n.invariant.next, c.requires.within) in
-    let p = item_place rows c.loop-n.place c.loop-n.invariant.place k in
-    record { block = p.0; index = p.1 }
-
-pub loop-n-preserved : goal.loop-n-preserved
-loop-n-preserved c =
-    let rows = c.args.frames.now.rows in
-    let fs = row_items rows in
-    let i = rank rows c.args.run.from in
-    let n = c.loop-n.n in
-    let x = c.item-stored.result.now in
-    let ys = drop (i + (n + 1)) fs in
-    let at : x ≡ get_or fs (i + n) x = c.item-stored.ensures ∙ ap (λ (k : ℕ). get_or fs k x) c.loop-n.invariant.next in
-    let e = without_more fs i n x (omega (arith, c.requires.within)) at in
-    let u = subst IsAscending e (ascending_without fs i (i + n) (omega arith) c.requires.ascending) in
-    let o = c.loop-n.invariant.order ∙ ap presentation_order e in
+    let run = c.args.run.now in
+    let i = rank rows run.from in
+    let n = run.count in
+    let x = c.item.result.now in
+    let y = c.item-2.result.now in
+    let h = run_of_serials rows run x y c.requires.ascending c.requires.run c.item.ensures c.item-2.ensures in
+    let os = row_items c.take_out_run.new.self.rows in
+    let gs = take i fs ++ drop (i + n) fs in
+    let e : os ≡ presentation_order gs = c.take_out_run.ensures.items c.if-take_out_run.true ∙ ap (filter (λ (o : OrderEntry). not (is_serial_from x.serial y.serial o))) c.requires.in_order ∙ run_out fs i n x.serial y.serial h in
     record {
-      place = c.next-place.ensures.place;
-      next = omega (arith, c.next-place.ensures.rank, c.loop-n.invariant.next);
-      order = c.take_out.ensures.items ∙ ap (filter (λ (p : OrderEntry). not (has_entry_serial x.serial p))) o ∙ order_without (take i fs) x ys u;
-      bytes = omega (arith, c.loop-n.invariant.bytes, ap bytes_of e, bytes_mid (take i fs) x ys, c.len.ensures);
-      spare = omega (arith, c.loop-n.invariant.spare, c.take_out.ensures.no_room_lost);
+      gap_from_zero = c.requires.gap_from_zero;
+      ranges = are_ranges c.args.gap fs c.args.ranges.now.spans c.requires.gap_from_zero c.requires.joined;
+      room = omega (arith, ap length e ∙ length_ordered gs, length_without fs i n (run_within rows run c.requires.run), c.requires.room);
+      keyed = keyed_of os gs e (ascending_without fs i (i + n) (omega arith) c.requires.ascending);
+      timed = timed_entries gs os e (each_without IsTimed fs i (i + n) c.requires.timed);
     }
 
-pub returns : goal.returns
-returns c =
-    let z : c.loop-n.n ≡ c.args.run.count = omega arith in
-    let fs = row_items c.args.frames.now.rows in
-    let i = rank c.args.frames.now.rows c.args.run.from in
+pub returns-then-take_out_run-clause-in_order : goal.returns-then-take_out_run-clause-in_order
+returns-then-take_out_run-clause-in_order c =
+    let rows = c.args.frames.now.rows in
+    let run = c.args.run.now in
+    let x = c.item.result.now in
+    let y = c.item-2.result.now in
+    let h = run_of_serials rows run x y c.requires.ascending c.requires.run c.item.ensures c.item-2.ensures in
+    c.take_out_run.ensures.items c.if-take_out_run.true ∙ ap (filter (λ (o : OrderEntry). not (is_serial_from x.serial y.serial o))) c.requires.in_order ∙ run_out (row_items rows) (rank rows run.from) run.count x.serial y.serial h
+
+pub returns-then-take_out_run-clause-spans : goal.returns-then-take_out_run-clause-spans
+returns-then-take_out_run-clause-spans c =
+    let rows = c.args.frames.now.rows in
+    let fs = row_items rows in
+    let run = c.args.run.now in
+    let i = rank rows run.from in
+    let n = run.count in
+    let x = c.item.result.now in
+    let y = c.item-2.result.now in
+    let h = run_of_serials rows run x y c.requires.ascending c.requires.run c.item.ensures c.item-2.ensures in
+    let os = row_items c.take_out_run.new.self.rows in
+    let e : os ≡ presentation_order (take i fs ++ drop (i + n) fs) = c.take_out_run.ensures.items c.if-take_out_run.true ∙ ap (filter (λ (o : OrderEntry). not (is_serial_from x.serial y.serial o))) c.requires.in_order ∙ run_out fs i n x.serial y.serial h in
+    let before = subst (λ (ps : List OrderEntry). AreBetween c.args.gap (map span_of ps) (intervals (take n (drop i fs))) c.args.ranges.now.spans) (sym e) (between_run c.args.gap fs i n c.args.ranges.now.spans c.requires.gap_from_zero c.requires.joined) in
+    between_none c.args.gap (map span_of os) c.mend.new.ranges.spans c.requires.gap_from_zero c.mend.ensures.ranges (c.mend.ensures.between [] (between_within c.args.gap (map span_of os) c.args.ranges.now.spans run.hull (take n (drop i fs)) c.requires.run.within before))
+
+pub take_out_each-requires : goal.take_out_each-requires
+take_out_each-requires c = record { ascending = c.requires.ascending; in_order = c.take_out_run.ensures.same c.if-take_out_run.false ∙ c.requires.in_order; run = c.requires.run }
+
+pub mend_run-requires : goal.mend_run-requires
+mend_run-requires c =
+    let rows = c.args.frames.now.rows in
+    let fs = row_items rows in
+    let run = c.args.run.now in
+    let i = rank rows run.from in
+    let n = run.count in
+    let os = row_items c.take_out_each.new.order.rows in
+    let gs = take i fs ++ drop (i + n) fs in
+    let e : os ≡ presentation_order gs = c.take_out_each.ensures.in_order in
     record {
-      in_order = c.loop-n.invariant.order ∙ ap (λ (k : ℕ). presentation_order (take i fs ++ drop (i + k) fs)) z;
-      bytes = c.loop-n.invariant.bytes ∙ ap (λ (k : ℕ). bytes_of (take i fs ++ drop (i + k) fs)) z;
-      no_room_lost = c.loop-n.invariant.spare;
+      repairable = record {
+        gap_from_zero = c.requires.gap_from_zero;
+        ranges = are_ranges c.args.gap fs c.args.ranges.now.spans c.requires.gap_from_zero c.requires.joined;
+        room = omega (arith, ap length e ∙ length_ordered gs, length_without fs i n (run_within rows run c.requires.run), c.requires.room);
+        keyed = keyed_of os gs e (ascending_without fs i (i + n) (omega arith) c.requires.ascending);
+        timed = timed_entries gs os e (each_without IsTimed fs i (i + n) c.requires.timed);
+      };
+      frames = c.requires.timed;
+      run = c.requires.run;
+      between = subst (λ (ps : List OrderEntry). AreBetween c.args.gap (map span_of ps) (intervals (take n (drop i fs))) c.args.ranges.now.spans) (sym e) (between_run c.args.gap fs i n c.args.ranges.now.spans c.requires.gap_from_zero c.requires.joined);
     }

@@ -1,6 +1,6 @@
 use Rattle.std.proofs.Common.{◌∙◌, sym, arith}
 use Rattle.track_index.specs.Order.{is_in_entry}
-use Rattle.track_index.proofs.Ordering.{last_none, last_at, none_back, none_from_start}
+use Rattle.track_index.proofs.EntryOrder.{last_none, last_at, none_back, none_from_start}
 use Rattle.track_index.proofs.order.last_in.Goals as goal
 
 pub returns-then-is_in_entry-clause-last : goal.returns-then-is_in_entry-clause-last

@@ -2,8 +2,8 @@ use Rattle.std.proofs.Common.{◌≡◌, ◌∙◌, ◌-◌, refl, true, take, s
 use Rattle.mse_base.specs.Rows.{row_items, row}
 use Rattle.track_index.specs.declared.known.Known.{Known}
 use Rattle.track_index.specs.Order.{is_in_entry, last_that, is_ended}
-use Rattle.track_index.proofs.Ordering.{last_none}
-use Rattle.track_index.proofs.Ending.{none_covers, found_in}
+use Rattle.track_index.proofs.EntryOrder.{last_none}
+use Rattle.track_index.proofs.BlockEnds.{none_covers, found_in}
 use Rattle.track_index.proofs.Blocks.{last_back, last_pass, begun_row, begun_less}
 use Rattle.track_index.proofs.order.last_in_blocks.Goals as goal
 

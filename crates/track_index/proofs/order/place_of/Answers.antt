@@ -24,8 +24,5 @@ names_of c =
 pub returns-clause-names : goal.returns-clause-names
 returns-clause-names c = names_of c
 
-pub returns-clause-block : goal.returns-clause-block
-returns-clause-block c = (item_place c.args.list.now.rows c.at_item.result c.at_item.ensures.place (names_of c).within).0
-
-pub returns-clause-index : goal.returns-clause-index
-returns-clause-index c = (item_place c.args.list.now.rows c.at_item.result c.at_item.ensures.place (names_of c).within).1
+pub returns-clause-place : goal.returns-clause-place
+returns-clause-place c = let p = item_place c.args.list.now.rows c.at_item.result c.at_item.ensures.place (names_of c).within in record { block = p.0; index = p.1 }

@@ -7,7 +7,7 @@ use Rattle.block_list.specs.BlockPlaces.{rank}
 use Rattle.track_index.specs.declared.entry.OrderEntry.{OrderEntry}
 use Rattle.track_index.specs.Repair.{HasTicksBetween}
 use Rattle.track_index.proofs.Blocks.{rank_within}
-use Rattle.track_index.proofs.Mending.{grown_none, grown_more, between_init, between_more, between_high, between_end, timed_at, le_of}
+use Rattle.track_index.proofs.MendedRanges.{grown_none, grown_more, between_init, between_more, between_high, between_end, timed_at, le_of}
 use Rattle.track_index.proofs.repair.join_between.Goals as goal
 
 pub loop-place-init : goal.loop-place-init

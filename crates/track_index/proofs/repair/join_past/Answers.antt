@@ -1,7 +1,7 @@
 use Rattle.std.proofs.Common.{arith}
 use Rattle.std.proofs.lemmas.Int.{ints}
 use Rattle.mse_base.specs.Rows.{row_items}
-use Rattle.track_index.proofs.Mending.{past_none, past_early, past_some, grown_none, grown_past, past_none_held, past_some_held}
+use Rattle.track_index.proofs.MendedRanges.{past_none, past_early, past_some, grown_none, grown_past, past_none_held, past_some_held}
 use Rattle.track_index.proofs.repair.join_past.Goals as goal
 
 pub returns-in-None-clause-grown : goal.returns-in-None-clause-grown

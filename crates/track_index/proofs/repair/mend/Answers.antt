@@ -6,7 +6,7 @@ use Rattle.mse_base.specs.Rows.{row_items}
 use Rattle.track_index.specs.declared.key.Key.{Key}
 use Rattle.track_index.specs.Order.{span_of}
 use Rattle.track_index.specs.Repair.{AreGrownBy, HasTicksPast, HasTicksBetween}
-use Rattle.track_index.proofs.Mending.{mended, between_whole, between_empty}
+use Rattle.track_index.proofs.MendedRanges.{mended, between_whole, between_empty}
 use Rattle.track_index.proofs.repair.mend.Goals as goal
 
 pub returns-then-le-clause-between : goal.returns-then-le-clause-between

@@ -1,5 +1,5 @@
 use Rattle.mse_base.specs.Rows.{row_items}
-use Rattle.track_index.proofs.Mending.{grown_both, past_grown}
+use Rattle.track_index.proofs.MendedRanges.{grown_both, past_grown}
 use Rattle.track_index.proofs.repair.refill.Goals as goal
 
 pub returns-then-join_past-clause-grown : goal.returns-then-join_past-clause-grown

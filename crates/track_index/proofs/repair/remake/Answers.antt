@@ -7,7 +7,7 @@ use Rattle.block_list.specs.BlockPlaces.{rank}
 use Rattle.track_index.specs.declared.entry.OrderEntry.{OrderEntry}
 use Rattle.track_index.specs.Order.{span_of}
 use Rattle.track_index.proofs.Blocks.{rank_within}
-use Rattle.track_index.proofs.Mending.{join_more, timed_at, few_taken, take_end}
+use Rattle.track_index.proofs.MendedRanges.{join_more, timed_at, few_taken, take_end}
 use Rattle.track_index.proofs.repair.remake.Goals as goal
 
 pub loop-place-init : goal.loop-place-init

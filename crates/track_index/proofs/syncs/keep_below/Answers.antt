@@ -1,6 +1,6 @@
 use Rattle.std.proofs.Common.{◌∙◌, ◌-◌, ℕ, List, length, take, slice_get, arith, ap, sym, subst, filter, nat_lt}
 use Rattle.track_index.specs.Syncs.{AreAscending}
-use Rattle.track_index.proofs.Noting.{last_below, split_last, ascending_front, filter_front}
+use Rattle.track_index.proofs.SyncSerials.{last_below, split_last, ascending_front, filter_front}
 use Rattle.track_index.proofs.syncs.keep_below.Goals as goal
 
 pub returns-then-last-serial-clause-serials : goal.returns-then-last-serial-clause-serials

@@ -1,7 +1,7 @@
 use Rattle.std.proofs.Common.{rules, of_calls, leb, false, length, arith, subst, refl, ℕ, ◌≡◌, ◌≤◌, ◌<◌, get_or}
 use Rattle.std.proofs.lemmas.Fn.{always_returns_same}
 use Rattle.std.proofs.lemmas.List.Sorted.{IsPartitionedBy-leb}
-use Rattle.track_index.proofs.Noting.{not_falling, none_up_to, last_at}
+use Rattle.track_index.proofs.SyncSerials.{not_falling, none_up_to, last_at}
 use Rattle.track_index.proofs.syncs.last_up_to.Goals as goal
 
 pub returns-then-count-eq0 : goal.returns-then-count-eq0

@@ -1,7 +1,7 @@
 use Rattle.std.proofs.Common.{sym, subst}
 use Rattle.mse_base.specs.Rows.{row_items}
 use Rattle.track_index.specs.Syncs.{AreSyncsOf}
-use Rattle.track_index.proofs.Noting.{held_syncs}
+use Rattle.track_index.proofs.SyncSerials.{held_syncs}
 use Rattle.track_index.proofs.syncs.make_room.Goals.{then-len-saturating_add, else-len-saturating_add}
 use Rattle.track_index.proofs.syncs.make_room.Goals as goal
 

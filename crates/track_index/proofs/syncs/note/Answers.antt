@@ -1,4 +1,4 @@
-use Rattle.track_index.proofs.Noting.{noted_sync, noted_other}
+use Rattle.track_index.proofs.SyncSerials.{noted_sync, noted_other}
 use Rattle.track_index.proofs.syncs.note.Goals as goal
 
 pub returns-then-frame-clause-syncs : goal.returns-then-frame-clause-syncs

@@ -1,6 +1,6 @@
 use Rattle.std.proofs.Common.{◌≡◌, ◌+◌, ◌-◌, ℕ, nat_eq, true, arith}
 use Rattle.std.proofs.lemmas.Bool.Decides.{nat_tests}
-use Rattle.track_index.proofs.Preceding.{has_before}
+use Rattle.track_index.proofs.FrameBefore.{has_before}
 use Rattle.track_index.proofs.tests.has_serial_before.Goals as goal
 
 next_to : (m n : ℕ) → nat_eq (n - m) 1 ≡ true → m + 1 ≡ n

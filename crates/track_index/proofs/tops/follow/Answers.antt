@@ -3,7 +3,7 @@ use Rattle.std.proofs.lemmas.List.{length-set}
 use Rattle.track_index.specs.declared.known.Known.{Known}
 use Rattle.mse_base.proofs.Compared.{max_of_two}
 use Rattle.mse_base.specs.Moments.{greatest_of_two}
-use Rattle.track_index.proofs.Ending.{same_end, follow_init, follow_stop, follow_front, unseen_init, unseen_next}
+use Rattle.track_index.proofs.BlockEnds.{same_end, follow_init, follow_stop, follow_front, unseen_init, unseen_next}
 use Rattle.track_index.proofs.tops.follow.Goals as goal
 
 pub loop-i-init : goal.loop-i-init

@@ -1,6 +1,6 @@
 use Rattle.std.proofs.Common.{◌≡◌, ◌-◌, ◌++◌, length, take, drop, vec_capacity}
 use Rattle.track_index.specs.Tops.{running_ends, tops_of}
-use Rattle.track_index.proofs.Ending.{AreUnseenTops}
+use Rattle.track_index.proofs.BlockEnds.{AreUnseenTops}
 use Rattle.track_index.proofs.tops.follow.Given as goal
 
 abbrev pub invariant-loop-i : goal.invariant-loop-i

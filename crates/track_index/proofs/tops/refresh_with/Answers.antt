@@ -2,7 +2,7 @@ use Rattle.std.proofs.Common.{◌≡◌, ◌+◌, ◌∙◌, length, ap, arith, 
 use Rattle.std.proofs.lemmas.List.{get_or_default}
 use Rattle.mse_base.proofs.Compared.{max_of_two}
 use Rattle.mse_base.specs.Moments.{greatest_of_two}
-use Rattle.track_index.proofs.Ending.{last_top}
+use Rattle.track_index.proofs.BlockEnds.{last_top}
 use Rattle.track_index.proofs.tops.refresh_with.Goals as goal
 
 pub returns-then-b-after-clause-items : goal.returns-then-b-after-clause-items
@@ -13,4 +13,4 @@ returns-then-b-after-clause-items c =
     let same : length rows ≡ length ts = omega (arith, c.len-before.ensures, c.blocks-after.ensures, c.if-after-before.true) in
     let last : b + 1 ≡ length ts = omega (arith, same, c.blocks-after.ensures, c.if-b-after.true) in
     let old = c.index.ensures ∙ get_or_default ts b c.index.result.now None (omega (arith, last)) in
-    last_top ts rows b c.max.result last same c.requires.front (c.max.ensures ∙ max_of_two c.index.result.now (Some c.args.end) ∙ ap (λ t. greatest_of_two t (Some c.args.end)) old ∙ c.requires.last last)
+    last_top ts rows b c.max.result last same c.requires.mendable.front (c.max.ensures ∙ max_of_two c.index.result.now (Some c.args.end) ∙ ap (λ t. greatest_of_two t (Some c.args.end)) old ∙ c.requires.last last)

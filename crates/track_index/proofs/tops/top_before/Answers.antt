@@ -1,5 +1,5 @@
 use Rattle.std.proofs.Common.{◌∙◌, length, ap, arith, None}
-use Rattle.track_index.proofs.Ending.{length_running_ends, top_of}
+use Rattle.track_index.proofs.BlockEnds.{length_running_ends, top_of}
 use Rattle.track_index.proofs.tops.top_before.Goals as goal
 
 pub end_before-requires : goal.end_before-requires

@@ -2,9 +2,9 @@ use Rattle.std.proofs.Common.{◌∙◌, ℕ, ◌<◌, ◌+◌, List, [], ◌∷
 use Rattle.std.proofs.lemmas.List.{length-set}
 use Rattle.mse_base.specs.Rows.{row_items, start, row}
 use Rattle.block_list.specs.Starts.{starts_of}
-use Rattle.block_list.proofs.Joining.{joined_set_set, get_at}
-use Rattle.block_list.proofs.Keeping.{listed_set}
-use Rattle.block_list.proofs.Starting.{starts_set}
+use Rattle.block_list.proofs.RowItems.{joined_set_set, get_at}
+use Rattle.block_list.proofs.KeptRows.{listed_set}
+use Rattle.block_list.proofs.RowStarts.{starts_set}
 use Rattle.block_list.proofs.block_list.BlockList.change.Goals as goal
 
 some_item : {T : Type 0} (xs : List T) (i : ℕ) → i < length xs → T

@@ -1,7 +1,7 @@
 use Rattle.std.proofs.Common.{length, ap, arith, vec_capacity}
 use Rattle.mse_base.specs.Rows.{row}
-use Rattle.block_list.proofs.Ranging.{cut_count, row_count}
-use Rattle.block_list.proofs.Keeping.{listed_cut}
+use Rattle.block_list.proofs.RemovedStretch.{cut_count, row_count}
+use Rattle.block_list.proofs.KeptRows.{listed_cut}
 use Rattle.block_list.proofs.block_list.BlockList.cut.Goals as goal
 
 pub invariant_of-self : goal.invariant_of-self

@@ -1,5 +1,5 @@
 use Rattle.std.proofs.Common.{◌∙◌, get_or, ap, sym}
-use Rattle.block_list.proofs.Joining.{get_at}
+use Rattle.block_list.proofs.RowItems.{get_at}
 use Rattle.block_list.proofs.block_list.BlockList.item.Goals as goal
 
 pub returns : goal.returns

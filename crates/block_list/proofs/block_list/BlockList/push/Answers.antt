@@ -1,7 +1,7 @@
 use Rattle.std.proofs.Common.{append-nil, length-append, ◌∙◌, ◌+◌, ◌++◌, ◌∷◌, [], length, ap, subst, arith, vec_capacity, insert}
 use Rattle.mse_base.specs.Rows.{row_items, start, AreEmpty}
-use Rattle.block_list.proofs.Joining.{joined_set_insert, inserted, joined_append, empty_last, insert_last}
-use Rattle.block_list.proofs.Keeping.{listed_put, listed_push}
+use Rattle.block_list.proofs.RowItems.{joined_set_insert, inserted, joined_append, empty_last, insert_last}
+use Rattle.block_list.proofs.KeptRows.{listed_put, listed_push}
 use Rattle.block_list.proofs.block_list.BlockList.push.Goals as goal
 
 pub invariant_of-self : goal.invariant_of-self

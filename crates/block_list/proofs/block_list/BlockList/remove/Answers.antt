@@ -1,7 +1,7 @@
 use Rattle.std.proofs.Common.{◌∙◌, ◌+◌, ◌<◌, length, ap, arith, vec_capacity, remove, get_or}
 use Rattle.mse_base.specs.Rows.{row_items, start, row}
-use Rattle.block_list.proofs.Joining.{joined_set_remove, removed, joined_one, row_is, one_gone}
-use Rattle.block_list.proofs.Keeping.{listed_take, listed_less}
+use Rattle.block_list.proofs.RowItems.{joined_set_remove, removed, joined_one, row_is, one_gone}
+use Rattle.block_list.proofs.KeptRows.{listed_take, listed_less}
 use Rattle.block_list.proofs.block_list.BlockList.remove.Goals as goal
 
 pub invariant_of-self : goal.invariant_of-self

@@ -1,6 +1,6 @@
 use Rattle.std.proofs.Common.{ap, sym, ◌∙◌, ◌≡◌, length, subst, arith, ◌≤◌, ◌*◌, ◌-◌, ◌+◌, max, vec_capacity, ℕ}
 use Rattle.mse_base.specs.Rows.{row_items}
-use Rattle.block_list.proofs.Keeping.{listed_fill}
+use Rattle.block_list.proofs.KeptRows.{listed_fill}
 use Rattle.block_list.proofs.block_list.BlockList.reserve.Goals as goal
 
 pub invariant_of-self-2 : goal.invariant_of-self-2

@@ -1,8 +1,8 @@
 use Rattle.std.proofs.Common.{◌∙◌, ◌<◌, ◌+◌, length, set, ap, arith, vec_capacity}
 use Rattle.std.proofs.lemmas.List.{length-set}
 use Rattle.mse_base.specs.Rows.{row_items, start, row}
-use Rattle.block_list.proofs.Joining.{joined_set_set}
-use Rattle.block_list.proofs.Keeping.{listed_set}
+use Rattle.block_list.proofs.RowItems.{joined_set_set}
+use Rattle.block_list.proofs.KeptRows.{listed_set}
 use Rattle.block_list.proofs.block_list.BlockList.set.Goals as goal
 
 pub invariant_of-self : goal.invariant_of-self

@@ -1,6 +1,6 @@
 use Rattle.std.proofs.Common.{subst}
 use Rattle.block_list.specs.Rows.{AreNonEmpty}
-use Rattle.block_list.proofs.Keeping.{full_of}
+use Rattle.block_list.proofs.KeptRows.{full_of}
 use Rattle.block_list.proofs.block_list.BlockList.spare.Goals as goal
 
 pub returns-clause-none_empty : goal.returns-clause-none_empty

@@ -1,7 +1,7 @@
 use Rattle.std.proofs.Common.{◌≡◌, ◌∙◌, ◌+◌, ◌-◌, ◌++◌, ◌∷◌, [], ℕ, List, length, take, ap, sym, subst, arith}
 use Rattle.mse_base.specs.Rows.{row_items}
 use Rattle.block_list.specs.Starts.{starts_of, AreStartsUpTo}
-use Rattle.block_list.proofs.Starting.{length_starts, more_starts, same_starts, kept_more}
+use Rattle.block_list.proofs.RowStarts.{length_starts, more_starts, same_starts, kept_more}
 use Rattle.block_list.proofs.ranked.RankedList.push.Goals as goal
 
 pub invariant_of-self : goal.invariant_of-self

@@ -1,5 +1,5 @@
 use Rattle.std.proofs.Common.{arith}
-use Rattle.block_list.proofs.Ranging.{row_count}
+use Rattle.block_list.proofs.RemovedStretch.{row_count}
 use Rattle.block_list.proofs.ranked.RankedList.rank.Goals as goal
 
 pub overflow_add-result : goal.overflow_add-result

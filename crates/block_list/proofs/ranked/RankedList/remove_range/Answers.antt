@@ -1,7 +1,7 @@
 use Rattle.std.proofs.Common.{◌≡◌, ◌∙◌, ◌+◌, ◌-◌, ◌<◌, ◌≤◌, length, drop, get_or, ap, sym, arith}
 use Rattle.mse_base.specs.Rows.{row_items, row}
 use Rattle.block_list.specs.Starts.{starts_of}
-use Rattle.block_list.proofs.Starting.{length_starts, start_at, start_front, kept_low, kept_high, kept_rest, front_left, rest_left, few_left}
+use Rattle.block_list.proofs.RowStarts.{length_starts, start_at, start_front, kept_low, kept_high, kept_rest, front_left, rest_left, few_left}
 use Rattle.block_list.proofs.ranked.RankedList.remove_range.Goals as goal
 
 pub restart-count-requires-clause-before : goal.restart-count-requires-clause-before
@@ -13,7 +13,7 @@ restart-count-requires-clause-before g c =
     let many = ap (λ w. length w.rows) c.self.view_is in
     let n = length_starts 0 old in
     let l : b < length old = omega (arith, many, c.requires.from) in
-    let at = c.index-before.ensures ∙ kept_low c.settle.new.starts.items (starts_of old) (c.args.to.block + 1) b x (omega (arith, c.requires.in_order)) (omega (arith, c.settle.ensures.len)) (omega (arith, n)) c.settle.ensures.front ∙ start_at 0 old b x l in
+    let at = c.index-before.ensures ∙ kept_low c.settle.new.starts.items (starts_of old) (c.args.to.block + 1) b x (omega (arith, c.requires.in_order)) (omega (arith, c.settle.ensures.starts.len)) (omega (arith, n)) c.settle.ensures.starts.front ∙ start_at 0 old b x l in
     omega (arith, at, start_front new old b (omega (arith, c.remove_range.ensures.at_most_touched_gone, c.requires.to, many)) (omega arith) c.remove_range.ensures.front)
 
 pub restart-count-requires-clause-front : goal.restart-count-requires-clause-front
@@ -29,7 +29,7 @@ restart-count-requires-clause-front g c =
     let behind = tb + 1 in
     let rest = behind - (c.blocks-blocks.result - c.blocks-2.result) in
     let l : tb < length old = omega (arith, many, c.requires.to) in
-    front_left c.settle.new.starts.items c.take_out.new.starts.items old new fb rest behind c.settle.ensures.len c.settle.ensures.front c.take_out.ensures.items (omega (arith, c.blocks-blocks.ensures, c.blocks-2.ensures, c.remove_range.ensures.at_most_touched_gone)) (omega arith) (omega arith) c.remove_range.ensures.front
+    front_left c.settle.new.starts.items c.take_out.new.items.items old new fb rest behind c.settle.ensures.starts.len c.settle.ensures.starts.front c.take_out.ensures.items (omega (arith, c.blocks-blocks.ensures, c.blocks-2.ensures, c.remove_range.ensures.at_most_touched_gone)) (omega arith) (omega arith) c.remove_range.ensures.front
 
 pub excess_at-self-inside-requires : goal.excess_at-self-inside-requires
 excess_at-self-inside-requires g c = λ h.
@@ -49,7 +49,7 @@ excess_at-self-inside-requires g c = λ h.
     let gone = length (row_items old) - length (row_items new) in
     let z : behind - (c.blocks-blocks.result - c.blocks-2.result) ≡ tb + 1 + length new - length old = omega (arith, c.blocks-blocks.ensures, c.blocks-2.ensures, c.remove_range.ensures.no_more_blocks) in
     let low : rest ≤ length new = omega (arith, c.blocks-blocks.ensures, c.blocks-2.ensures, c.remove_range.ensures.no_more_blocks) in
-    let too = rest_left c.settle.new.starts.items c.take_out.new.starts.items c.restart-count.new.starts.items old new rest behind c.self.inside.excess gone c.settle.ensures.len c.settle.ensures.rest c.take_out.ensures.items c.restart-count.ensures.rest low (omega arith) (omega arith) (ap (λ k. drop k new) z ∙ c.remove_range.ensures.rest) (omega (arith, few)) in
+    let too = rest_left c.settle.new.starts.items c.take_out.new.items.items c.restart-count.new.starts.items old new rest behind c.self.inside.excess gone c.settle.ensures.starts.len c.settle.ensures.starts.rest c.take_out.ensures.items c.restart-count.ensures.rest low (omega arith) (omega arith) (ap (λ k. drop k new) z ∙ c.remove_range.ensures.rest) (omega (arith, few)) in
     let two = c.restart-count.new.starts.items in
     let here : rest < length new = omega (arith, h, ap length c.deref.ensures.value, c.restart-count.ensures.len) in
     let at = kept_high two (starts_of new) rest (gone + c.self.inside.excess) rest 0 (omega arith) (omega (arith, c.restart-count.ensures.len)) (omega (arith, length_starts 0 new)) too in
@@ -73,7 +73,7 @@ invariant_of-self g c =
     let gone = length (row_items old) - length (row_items new) in
     let z : behind - (c.blocks-blocks.result - c.blocks-2.result) ≡ tb + 1 + length new - length old = omega (arith, c.blocks-blocks.ensures, c.blocks-2.ensures, c.remove_range.ensures.no_more_blocks) in
     let low : rest ≤ length new = omega (arith, c.blocks-blocks.ensures, c.blocks-2.ensures, c.remove_range.ensures.no_more_blocks) in
-    let too = rest_left c.settle.new.starts.items c.take_out.new.starts.items c.restart-count.new.starts.items old new rest behind c.self.inside.excess gone c.settle.ensures.len c.settle.ensures.rest c.take_out.ensures.items c.restart-count.ensures.rest low (omega arith) (omega arith) (ap (λ k. drop k new) z ∙ c.remove_range.ensures.rest) (omega (arith, few)) in
+    let too = rest_left c.settle.new.starts.items c.take_out.new.items.items c.restart-count.new.starts.items old new rest behind c.self.inside.excess gone c.settle.ensures.starts.len c.settle.ensures.starts.rest c.take_out.ensures.items c.restart-count.ensures.rest low (omega arith) (omega arith) (ap (λ k. drop k new) z ∙ c.remove_range.ensures.rest) (omega (arith, few)) in
     let two = c.restart-count.new.starts.items in
     let n = length_starts 0 new in
     let long = c.restart-count.ensures.len ∙ sym n in

@@ -1,7 +1,7 @@
 use Rattle.std.proofs.Common.{◌∙◌, ◌<◌, length, ap, arith}
 use Rattle.mse_base.specs.Rows.{start}
 use Rattle.block_list.specs.Starts.{starts_of}
-use Rattle.block_list.proofs.Starting.{length_starts, start_at, kept_low, kept_high}
+use Rattle.block_list.proofs.RowStarts.{length_starts, start_at, kept_low, kept_high}
 use Rattle.block_list.proofs.ranked.RankedList.start.Goals as goal
 
 pub returns-then-b-self : goal.returns-then-b-self

@@ -2,8 +2,8 @@ use Rattle.std.proofs.Common.{◌∙◌, ap, Some, None}
 use Rattle.mse_base.specs.Rows.{row_items}
 use Rattle.track_store.specs.Frames.{frame_at, has_serial}
 use Rattle.track_index.proofs.Keys.{keyed_of}
-use Rattle.track_index.proofs.Naming.{named_ordered}
-use Rattle.track_index.proofs.Framing.{frame_position}
+use Rattle.track_index.proofs.NamedFrames.{named_ordered}
+use Rattle.track_index.proofs.FrameLookUps.{frame_position}
 use Rattle.track_index.proofs.index_store.IndexStore.overlapped_counted.Goals as goal
 
 pub last_holding-requires : goal.last_holding-requires

@@ -6,7 +6,7 @@ use Rattle.track_store.proofs.Listing.{few_ranges, are_ranges}
 use Rattle.track_index.specs.declared.entry.OrderEntry.{OrderEntry}
 use Rattle.track_index.specs.Order.{entries_with, span_of}
 use Rattle.track_index.proofs.Keys.{keyed_of}
-use Rattle.track_index.proofs.Keeping.{indexed_added}
+use Rattle.track_index.proofs.KeptStore.{indexed_added}
 use Rattle.track_index.proofs.Rooms.{room_each, room_kept}
 use Rattle.track_index.proofs.index_store.IndexStoreFrameStore.add.Goals as goal
 

@@ -1,5 +1,5 @@
 use Rattle.std.proofs.Common.{◌≡◌, ◌∙◌, ◌||◌, Some, ap, sym}
-use Rattle.track_index.proofs.Ending.{known_with}
+use Rattle.track_index.proofs.BlockEnds.{known_with}
 use Rattle.mse_base.proofs.Compared.{max_of_two}
 use Rattle.mse_base.specs.Moments.{greatest_of_two}
 use Rattle.track_index.proofs.known.KnownFactOrderEntry.with.Goals as goal

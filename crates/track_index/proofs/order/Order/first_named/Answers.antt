@@ -3,7 +3,7 @@ use Rattle.std.specs.List.{AllByRecursion}
 use Rattle.mse_base.specs.Rows.{row_items}
 use Rattle.block_list.specs.BlockPlaces.{rank}
 use Rattle.track_index.specs.Keyed.{is_before_key, is_entry_named}
-use Rattle.track_index.proofs.Ordering.{each_more}
+use Rattle.track_index.proofs.EntryOrder.{each_more}
 use Rattle.track_index.proofs.Keys.{found_init, found_here, none_from, none_at_end, none_behind, rest_next, unnamed_serial, is_named_entry}
 use Rattle.track_index.proofs.Blocks.{rank_within}
 use Rattle.track_index.proofs.order.Order.first_named.Goals as goal

@@ -1,10 +1,10 @@
-use Rattle.std.proofs.Common.{◌∙◌, ◌<◌, ◌++◌, ◌∷◌, [], length, ap, subst, sym, arith, None, vec_capacity, ◌+ℤ◌, pos, ℤ}
+use Rattle.std.proofs.Common.{◌∙◌, ◌+◌, ◌<◌, ◌++◌, ◌∷◌, [], length, ap, subst, sym, arith, None, vec_capacity, ◌+ℤ◌, pos, ℤ}
 use Rattle.mse_base.specs.Rows.{row_items}
 use Rattle.block_list.specs.BlockPlaces.{rank}
 use Rattle.track_index.specs.declared.key.Key.{Key}
 use Rattle.track_index.specs.Order.{entries_with}
 use Rattle.track_index.specs.Keyed.{IsKeyed}
-use Rattle.track_index.proofs.Ending.{length_running_ends}
+use Rattle.track_index.proofs.BlockEnds.{length_running_ends}
 use Rattle.track_index.proofs.Keys.{cut_keyed, put_with}
 use Rattle.track_index.proofs.Blocks.{ready, first_ready, joined_none, top_with}
 use Rattle.track_index.proofs.order.Order.put.Goals as goal
@@ -15,8 +15,7 @@ refresh-requires c =
     let old = c.self.inside.list.rows in
     let new = c.push.new.self.rows in
     let few1 = c.push.ensures.one_block_apart.1 in
-    let r = first_ready ts old new (vec_capacity c.self.inside.tops) c.self.invariant (omega (arith, c.blocks-2.ensures, c.if-blocks-eq0.true)) (omega (arith, few1, c.blocks-2.ensures, c.if-blocks-eq0.true)) (omega (arith, few1, c.blocks-2.ensures, c.if-blocks-eq0.true, ap (λ w. w.spare) c.self.view_is, c.requires.room)) in
-    record { within = r.within; at_most_one_more = r.more; at_most_one_fewer = r.fewer; gone = r.gone; room = r.room; front = r.front; rest = r.rest }
+    first_ready ts old new (vec_capacity c.self.inside.tops) c.self.invariant (omega (arith, c.blocks-2.ensures, c.if-blocks-eq0.true)) (omega (arith, few1, c.blocks-2.ensures, c.if-blocks-eq0.true)) (omega (arith, few1, c.blocks-2.ensures, c.if-blocks-eq0.true, ap (λ w. w.spare) c.self.view_is, c.requires.room))
 
 pub returns-then-blocks-eq0-clause-items : goal.returns-then-blocks-eq0-clause-items
 returns-then-blocks-eq0-clause-items c =
@@ -45,15 +44,9 @@ refresh_with-requires c =
     let few0 = c.insert.ensures.one_block_apart.0 in
     let few1 = c.insert.ensures.one_block_apart.1 in
     let l : b < length old = c.search-place.ensures.block (omega (arith, c.blocks-2.ensures, c.if-blocks-eq0.false)) in
-    let r = ready ts old new b (vec_capacity c.self.inside.tops) c.self.invariant l few1 (omega (arith, few0)) (omega (arith, few1, n, ap (λ w. w.spare) c.self.view_is, c.requires.room, c.self.inside.tops.ok.0)) c.insert.ensures.front c.insert.ensures.rest in
+    let r = ready ts old new b (b + 1) (vec_capacity c.self.inside.tops) c.self.invariant (omega arith) (omega (arith, l)) few1 (omega (arith, few0)) (omega (arith, few1, n, ap (λ w. w.spare) c.self.view_is, c.requires.room, c.self.inside.tops.ok.0)) c.insert.ensures.front c.insert.ensures.rest in
     record {
-      within = r.within;
-      at_most_one_more = r.more;
-      at_most_one_fewer = r.fewer;
-      gone = r.gone;
-      room = r.room;
-      front = r.front;
-      rest = r.rest;
+      mendable = r;
       last = λ e. top_with ts old new b (rank old c.search-place.result) c.args.entry c.end_mark-end.result c.self.invariant (omega (arith, e, n)) c.end_mark-end.ensures c.insert.ensures.items;
     }
 

@@ -1,7 +1,7 @@
 use Rattle.std.proofs.Common.{◌∙◌, ◌+◌, drop, sym, ap, subst, arith}
 use Rattle.mse_base.specs.Rows.{row_items, row}
 use Rattle.block_list.specs.BlockPlaces.{rank}
-use Rattle.block_list.proofs.Ranging.{drop_at}
+use Rattle.block_list.proofs.RemovedStretch.{drop_at}
 use Rattle.track_index.specs.Order.{first_start, is_sync_from}
 use Rattle.track_index.specs.Keyed.{IsKeyed}
 use Rattle.track_index.proofs.Lookups.{sync_init}

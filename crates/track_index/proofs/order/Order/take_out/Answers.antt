@@ -1,12 +1,16 @@
-use Rattle.std.proofs.Common.{◌∙◌, length, filter, not, ap, arith, None, vec_capacity}
+use Rattle.std.proofs.Common.{subst, sym, ◌∙◌, ◌+◌, length, filter, not, ap, arith, None, vec_capacity}
 use Rattle.mse_base.specs.Rows.{row_items}
+use Rattle.block_list.specs.Rows.{ListView}
 use Rattle.block_list.specs.BlockPlaces.{rank}
 use Rattle.track_index.specs.declared.entry.OrderEntry.{OrderEntry}
-use Rattle.track_index.specs.Keyed.{has_entry_serial}
-use Rattle.track_index.proofs.Ending.{length_running_ends}
+use Rattle.track_index.specs.Keyed.{has_entry_serial, HasEntry}
+use Rattle.track_index.proofs.BlockEnds.{length_running_ends}
 use Rattle.track_index.proofs.Keys.{taken_out}
 use Rattle.track_index.proofs.Blocks.{ready}
 use Rattle.track_index.proofs.order.Order.take_out.Goals as goal
+
+pub place_of-place-requires : goal.place_of-place-requires
+place_of-place-requires c = subst (λ (w : ListView OrderEntry). HasEntry c.args.pts c.args.serial (row_items w.rows)) (sym c.self.view_is) c.requires
 
 pub refresh-requires : goal.refresh-requires
 refresh-requires c =
@@ -17,8 +21,7 @@ refresh-requires c =
     let n = ap length c.self.invariant ∙ length_running_ends None old in
     let few0 = c.remove.ensures.one_block_apart.0 in
     let few1 = c.remove.ensures.one_block_apart.1 in
-    let r = ready ts old new b (vec_capacity c.self.inside.tops) c.self.invariant c.place_of-place.ensures.block (omega (arith, few0)) few1 (omega (arith, few0, n, c.self.inside.tops.ok.0, c.self.inside.tops.ok.1)) c.remove.ensures.front c.remove.ensures.rest in
-    record { within = r.within; at_most_one_more = r.more; at_most_one_fewer = r.fewer; gone = r.gone; room = r.room; front = r.front; rest = r.rest }
+    ready ts old new b (b + 1) (vec_capacity c.self.inside.tops) c.self.invariant (omega arith) (omega (arith, c.place_of-place.ensures.place.block)) (omega (arith, few0)) (omega (arith, few1)) (omega (arith, few0, n, c.self.inside.tops.ok.0, c.self.inside.tops.ok.1)) c.remove.ensures.front c.remove.ensures.rest
 
 pub returns-clause-items : goal.returns-clause-items
 returns-clause-items c =

@@ -6,7 +6,7 @@ use Rattle.std.proofs.lemmas.List.{drop_more, drop_all}
 use Rattle.std.proofs.lemmas.List.Folds.{find_at}
 use Rattle.track_store.specs.declared.store.Stored.{Stored}
 use Rattle.track_store.specs.Frames.{IsAscending, has_serial, frame_at, from_sync}
-use Rattle.track_index.proofs.Removing.{each_frame}
+use Rattle.track_index.proofs.RemovedRuns.{each_frame}
 
 -- ---- the place of a serial
 

@@ -11,6 +11,8 @@ use Rattle.mse_base.specs.Bridging.{IsRanges, ranges_with, ranges_with_all, brid
 use Rattle.mse_base.proofs.Merging.{ranges_bridged, times_bridged, length_bridged}
 use Rattle.mse_base.proofs.Extended.{same_near, near_parts, near_is}
 use Rattle.mse_base.proofs.Carving.{left_holds, right_holds, carved_less, hole_empty}
+use Rattle.track_store.specs.declared.store.Stored.{Stored}
+use Rattle.track_store.specs.Frames.{interval, intervals}
 use Rattle.track_index.specs.declared.entry.OrderEntry.{OrderEntry}
 use Rattle.track_index.specs.declared.key.Key.{Key}
 use Rattle.track_index.specs.Order.{span_of, end_of}
@@ -18,8 +20,9 @@ use Rattle.track_index.specs.Keyed.{is_before_key, IsKeyed}
 use Rattle.mse_base.specs.Moments.{greatest_of_two}
 use Rattle.track_index.specs.Known.{greatest_end}
 use Rattle.track_index.specs.Repair.{AreTimed, AreBetween, HasEndAt, IsPast, AreGrownBy, HasTicksBetween, HasTicksPast}
-use Rattle.track_index.proofs.Ordering.{each_weaker, each_both, each_whole, each_more, each_at}
-use Rattle.track_index.proofs.Ending.{greatest-append}
+use Rattle.track_index.specs.Runs.{AreWithin}
+use Rattle.track_index.proofs.EntryOrder.{each_weaker, each_both, each_whole, each_more, each_at}
+use Rattle.track_index.proofs.BlockEnds.{greatest-append}
 use Rattle.track_index.proofs.Keys.{before_parts, low_of, later_starts}
 
 or_cases : {P : Type 0} (a b : Bool) → (a || b) ≡ true → (a ≡ true → P) → (b ≡ true → P) → P
@@ -318,3 +321,19 @@ take_end [] zero l = refl
 take_end [] (suc i) l = refl
 take_end (o ∷ os) zero l = absurd (omega arith)
 take_end (o ∷ os) (suc i) l = ap (λ zs. o ∷ zs) (take_end os i (omega arith))
+
+-- ---- one hole for several
+
+near_within : (gap t : ℤ) (hull : Span) (fs : List Stored) → AreWithin hull fs → is_near_any gap t (intervals fs) ≡ true → is_near gap t hull ≡ true
+near_within gap t hull [] w e = absurd cc
+near_within gap t hull (f ∷ fs) w e = or_cases (is_near gap t (interval f)) (is_near_any gap t (intervals fs)) e
+    (λ k. let q = near_parts gap t (interval f) k in
+    let q0 = q.0 in let q1 = q.1 in let q2 = q.2 in
+    let a = w.0 in let a0 = a.0 in let a1 = a.1 in
+    near_is gap t hull (omega (arith, ints)) (omega (arith, ints)) (omega (arith, ints)))
+    (near_within gap t hull fs w.1)
+
+-- a span that has all holes is a hole for all
+pub between_within : (gap : ℤ) (spans rs : List Span) (hull : Span) (fs : List Stored) → AreWithin hull fs → AreBetween gap spans (intervals fs) rs → AreBetween gap spans (hull ∷ []) rs
+between_within gap spans rs hull fs w h = λ t.
+    ((h t).0, λ e. or_cases (is_near_any gap t spans) (is_near_any gap t (intervals fs)) ((h t).1 e) (λ k. or_left _ _ k) (λ k. or_right (is_near_any gap t spans) _ (or_left (is_near gap t hull) false (near_within gap t hull fs w k))))

@@ -5,7 +5,7 @@ use Rattle.std.proofs.lemmas.List.Edits.{length-insert, length-remove}
 use Rattle.std.proofs.Math.Nat.{mul-le-mul_left}
 use Rattle.mse_base.specs.Rows.{row, AreEmpty, Blocks}
 use Rattle.block_list.specs.Rows.{AreShort, AreNonEmpty, IsListed}
-use Rattle.block_list.proofs.Joining.{Addition, IsAddedByCut, short_set, short_row, short_less, short_push, used_set, used_less, used_push, used_bound, empty_push, empty_last}
+use Rattle.block_list.proofs.RowItems.{Addition, IsAddedByCut, short_set, short_row, short_less, short_push, used_set, used_less, used_push, used_bound, empty_push, empty_last}
 
 pub one_more : {T : Type 0} (xs : List T) (x : T) → length (xs ++ x ∷ []) ≡ length xs + 1
 one_more xs x = omega (arith, length-append xs (x ∷ []))

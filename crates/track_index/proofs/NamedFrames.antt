@@ -8,7 +8,7 @@ use Rattle.track_store.specs.Frames.{is_in_frame, overlapped, has_serial, IsAsce
 use Rattle.track_store.proofs.Overlapping.{fold-each}
 use Rattle.track_index.specs.declared.entry.OrderEntry.{OrderEntry}
 use Rattle.track_index.specs.Order.{entry_of, is_in_entry, presentation_order, last_that}
-use Rattle.track_index.proofs.Ordering.{found_ordered}
+use Rattle.track_index.proofs.EntryOrder.{found_ordered}
 
 -- a frame of the list
 abbrev IsIn : Stored → List Stored → Type 0

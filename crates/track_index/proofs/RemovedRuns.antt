@@ -22,9 +22,9 @@ use Rattle.track_index.specs.Order.{entries_with, entries_with_all, entry_of, sp
 use Rattle.track_index.specs.Keyed.{has_entry_serial}
 use Rattle.track_index.specs.Frames.{is_serial_below}
 use Rattle.track_index.specs.Repair.{AreBetween}
-use Rattle.track_index.proofs.Ordering.{each_to_ordered}
+use Rattle.track_index.proofs.EntryOrder.{each_to_ordered}
 use Rattle.track_index.proofs.Serials.{filter_ordered}
-use Rattle.track_index.proofs.Keeping.{near_ordered}
+use Rattle.track_index.proofs.KeptStore.{near_ordered}
 
 pub each_frame : (P Q : Stored → Type 0) (fs : List Stored) → ((f : Stored) → P f → Q f) → AllByRecursion P fs → AllByRecursion Q fs
 each_frame P Q [] f h = h
@@ -40,11 +40,11 @@ ascending_drop fs zero h = h
 ascending_drop [] (suc n) h = h
 ascending_drop (f ∷ fs) (suc n) h = ascending_drop fs n h.1
 
-each_join : (P : Stored → Type 0) (xs ys : List Stored) → AllByRecursion P xs → AllByRecursion P ys → AllByRecursion P (xs ++ ys)
+pub each_join : (P : Stored → Type 0) (xs ys : List Stored) → AllByRecursion P xs → AllByRecursion P ys → AllByRecursion P (xs ++ ys)
 each_join P [] ys h k = k
 each_join P (x ∷ xs) ys h k = (h.0, each_join P xs ys h.1 k)
 
-each_take : (P : Stored → Type 0) (fs : List Stored) (n : ℕ) → AllByRecursion P fs → AllByRecursion P (take n fs)
+pub each_take : (P : Stored → Type 0) (fs : List Stored) (n : ℕ) → AllByRecursion P fs → AllByRecursion P (take n fs)
 each_take P fs zero h = tt
 each_take P [] (suc n) h = h
 each_take P (f ∷ fs) (suc n) h = (h.0, each_take P fs n h.1)
@@ -79,7 +79,7 @@ keep_high : (n : ℕ) (fs : List Stored) → AllByRecursion (λ f. n < f.serial)
 keep_high n [] h = refl
 keep_high n (f ∷ fs) h = ap (λ b. cond (not b) (f ∷ filter (λ g. not (has_serial n g)) fs) (filter (λ g. not (has_serial n g)) fs)) (other_high f.serial n h.0) ∙ ap (λ zs. f ∷ zs) (keep_high n fs h.1)
 
-mid_high : (xs : List Stored) (x : Stored) (ys : List Stored) → IsAscending (xs ++ x ∷ ys) → AllByRecursion (λ f. x.serial < f.serial) ys
+pub mid_high : (xs : List Stored) (x : Stored) (ys : List Stored) → IsAscending (xs ++ x ∷ ys) → AllByRecursion (λ f. x.serial < f.serial) ys
 mid_high [] x ys u = u.0
 mid_high (f ∷ xs) x ys u = mid_high xs x ys u.1
 
@@ -243,7 +243,7 @@ or_mid false false false = refl
 or_left : (a b : Bool) → a ≡ true → (a || b) ≡ true
 or_left a b e = ap (λ x. x || b) e
 
-three_parts : (fs : List Stored) (i n : ℕ) → fs ≡ take i fs ++ (take n (drop i fs) ++ drop (i + n) fs)
+pub three_parts : (fs : List Stored) (i n : ℕ) → fs ≡ take i fs ++ (take n (drop i fs) ++ drop (i + n) fs)
 three_parts fs i n =
     let z : drop n (drop i fs) ≡ drop (i + n) fs = drop-drop n i fs ∙ ap (λ k. drop k fs) refl in
     sym (take-append-drop i fs) ∙ ap (λ zs. take i fs ++ zs) (sym (take-append-drop n (drop i fs)) ∙ ap (λ zs. take n (drop i fs) ++ zs) z)
@@ -283,7 +283,7 @@ run_next fs i count n x l k at =
 pub run_over : (fs : List Stored) (i count n : ℕ) → i + count ≤ length fs → count ≤ n → drop n (take count (drop i fs)) ≡ []
 run_over fs i count n l k = drop_all n (take count (drop i fs)) (omega (arith, length-take-le count (drop i fs) (omega (arith, length-drop i fs))))
 
-frame_of : (fs : List Stored) (i : ℕ) → i < length fs → (x : Stored) × (x ≡ get_or fs i x)
+pub frame_of : (fs : List Stored) (i : ℕ) → i < length fs → (x : Stored) × (x ≡ get_or fs i x)
 frame_of [] i l = absurd (omega arith)
 frame_of (f ∷ fs) zero l = (f, refl)
 frame_of (f ∷ fs) (suc i) l = let r = frame_of fs i (omega arith) in (r.0, r.1)

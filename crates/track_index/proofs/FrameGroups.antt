@@ -6,8 +6,8 @@ use Rattle.track_store.specs.declared.store.Stored.{Stored}
 use Rattle.track_store.specs.Frames.{IsAscending, has_serial, last_place, last_place_after, group_start_of}
 use Rattle.track_store.specs.Sound.{IsChained, IsSuccessor, last_serial}
 use Rattle.track_index.specs.Syncs.{is_among, IsLastUpTo, IsToldBy, AreSyncsOf}
-use Rattle.track_index.proofs.Noting.{among_each}
-use Rattle.track_index.proofs.Framing.{pos_suc, position_at, position_none}
+use Rattle.track_index.proofs.SyncSerials.{among_each}
+use Rattle.track_index.proofs.FrameLookUps.{pos_suc, position_at, position_none}
 
 -- ---- whether a frame is held
 

@@ -1,11 +1,11 @@
 -- The greatest ends of blocks, and their running ends.
-use Rattle.std.proofs.Common.{◌≡◌, ◌∙◌, ℕ, zero, suc, ℤ, ◌+◌, ◌-◌, ◌<◌, ◌≤◌, ◌≤ℤ◌, cond, Bool, true, false, ◌||◌, List, [], ◌∷◌, ◌++◌, length, get_or, set, take, drop, insert, remove, Option, Some, None, refl, sym, ap, subst, inl, inr, ◌⊎◌, arith, fold, map, int_le}
+use Rattle.std.proofs.Common.{◌≡◌, ◌∙◌, ℕ, zero, suc, ℤ, ◌+◌, ◌-◌, ◌<◌, ◌≤◌, ◌≤ℤ◌, cond, Bool, true, false, ◌||◌, List, [], ◌∷◌, ◌++◌, length, get_or, set, take, drop, insert, Option, Some, None, refl, sym, ap, subst, inl, inr, ◌⊎◌, arith, fold, map, int_le}
 use Rattle.std.specs.Int.{int_max}
 use Rattle.std.specs.List.{AllByRecursion, list_any}
 use Rattle.std.specs.Option.{option_eq}
 use Rattle.std.specs.Ordering.{int_eq}
 use Rattle.std.proofs.lemmas.Int.{ints}
-use Rattle.std.proofs.lemmas.List.{drop_more, drop_all, take_more, take-append-drop, take_more_set, drop-set-lt, append_assoc, append-nil, map-append}
+use Rattle.std.proofs.lemmas.List.{drop_more, drop_all, drop-drop, take_more, take-append-drop, take_more_set, drop-set-lt, append_assoc, append-nil, map-append}
 use Rattle.std.proofs.lemmas.List.Sums.{fold-append}
 use Rattle.mse_base.specs.Moments.{greater_of, greatest, greatest_of_two}
 use Rattle.mse_base.specs.Rows.{row_items, row}
@@ -219,25 +219,26 @@ take_insert xs zero x l = refl
 take_insert [] (suc i) x l = absurd (omega arith)
 take_insert (y ∷ ys) (suc i) x l = ap (λ zs. y ∷ zs) (take_insert ys i x (omega arith))
 
-pub drop_insert : {A : Type 0} (xs : List A) (i n : ℕ) (x : A) → i ≤ length xs → n ≡ i + 2 → drop n (insert xs i x) ≡ drop (i + 1) xs
-drop_insert xs zero n x l e = ap (λ k. drop k (x ∷ xs)) e
-drop_insert [] (suc i) n x l e = absurd (omega arith)
-drop_insert (y ∷ ys) (suc i) n x l e =
-    let z : n ≡ suc (i + 2) = omega arith in
-    let w : suc i + 1 ≡ suc (i + 1) = omega arith in
-    ap (λ k. drop k (y ∷ insert ys i x)) z ∙ drop_insert ys i (i + 2) x (omega arith) refl ∙ ap (λ k. drop k (y ∷ ys)) (sym w)
+pub drop_insert : {A : Type 0} (xs : List A) (i n m : ℕ) (x : A) → i ≤ length xs → i ≤ m → n ≡ m + 1 → drop n (insert xs i x) ≡ drop m xs
+drop_insert xs zero n m x l k e = let z : n ≡ suc m = omega arith in ap (λ j. drop j (x ∷ xs)) z
+drop_insert [] (suc i) n m x l k e = absurd (omega arith)
+drop_insert (y ∷ ys) (suc i) n zero x l k e = absurd (omega arith)
+drop_insert (y ∷ ys) (suc i) n (suc m) x l k e = let z : n ≡ suc (m + 1) = omega arith in ap (λ j. drop j (y ∷ insert ys i x)) z ∙ drop_insert ys i (m + 1) m x (omega arith) (omega arith) refl
 
-pub take_remove : {A : Type 0} (xs : List A) (i : ℕ) → i < length xs → take i (remove xs i) ≡ take i xs
-take_remove xs zero l = refl
-take_remove [] (suc i) l = absurd (omega arith)
-take_remove (y ∷ ys) (suc i) l = ap (λ zs. y ∷ zs) (take_remove ys i (omega arith))
+pub take_taken : {A : Type 0} (xs ys : List A) (b : ℕ) → b ≤ length xs → take b (take b xs ++ ys) ≡ take b xs
+take_taken xs ys zero l = refl
+take_taken [] ys (suc b) l = absurd (omega arith)
+take_taken (x ∷ xs) ys (suc b) l = ap (λ zs. x ∷ zs) (take_taken xs ys b (omega arith))
 
-pub drop_remove : {A : Type 0} (xs : List A) (i n : ℕ) → i < length xs → n ≡ i → drop n (remove xs i) ≡ drop (i + 1) xs
-drop_remove [] i n l e = absurd (omega arith)
-drop_remove (y ∷ ys) zero n l e = ap (λ k. drop k ys) e
-drop_remove (y ∷ ys) (suc i) n l e =
-    let w : suc i + 1 ≡ suc (i + 1) = omega arith in
-    ap (λ k. drop k (y ∷ remove ys i)) e ∙ drop_remove ys i i (omega arith) refl ∙ ap (λ k. drop k (y ∷ ys)) (sym w)
+-- what is left from a place on after k items went before it
+pub drop_taken : {A : Type 0} (xs : List A) (b k n m : ℕ) → b + k ≤ length xs → b ≤ n → m ≡ n + k → drop n (take b xs ++ drop (b + k) xs) ≡ drop m xs
+drop_taken xs zero k n m l h e = let z : 0 + k + n ≡ m = omega arith in drop-drop n (0 + k) xs ∙ ap (λ j. drop j xs) z
+drop_taken [] (suc b) k n m l h e = absurd (omega arith)
+drop_taken (x ∷ xs) (suc b) k zero m l h e = absurd (omega arith)
+drop_taken (x ∷ xs) (suc b) k (suc n) m l h e =
+    let z : suc b + k ≡ suc (b + k) = omega arith in
+    let w : m ≡ suc (n + k) = omega arith in
+    ap (λ j. drop (suc n) (take (suc b) (x ∷ xs) ++ drop j (x ∷ xs))) z ∙ drop_taken xs b k n (n + k) (omega arith) (omega arith) refl ∙ ap (λ j. drop j (x ∷ xs)) (sym w)
 
 -- the ends of rows of which those from a place on stayed
 pub runs_kept : (ts us : List (Option ℤ)) (old rows : List (List OrderEntry)) (b n : ℕ) → ts ≡ tops_of old → b < length old → drop n rows ≡ drop (b + 1) old → AreTopsFrom (b + 1) ts n rows

@@ -18,9 +18,9 @@ use Rattle.track_index.specs.declared.entry.OrderEntry.{OrderEntry}
 use Rattle.track_index.specs.Order.{entries_with, entries_with_all, entry_of, span_of, presentation_order, with_entry_dur}
 use Rattle.track_index.specs.Repair.{AreBetween}
 use Rattle.track_index.specs.Indexed.{FrameIndex, IsIndexed}
-use Rattle.track_index.proofs.Noting.{syncs-shortened}
-use Rattle.track_index.proofs.Ordering.{each_weaker, each_to_ordered}
-use Rattle.track_index.proofs.Keeping.{near_ordered, ranges_by_order}
+use Rattle.track_index.proofs.SyncSerials.{syncs-shortened}
+use Rattle.track_index.proofs.EntryOrder.{each_weaker, each_to_ordered}
+use Rattle.track_index.proofs.KeptStore.{near_ordered, ranges_by_order}
 
 other_dur : (o : OrderEntry) (b : Bool) (d : ℤ) → b ≡ false → record o { dur = cond b d o.dur } ≡ o
 other_dur o b d e = ap (λ c. record o { dur = cond c d o.dur }) e

@@ -3,8 +3,8 @@ use Rattle.std.proofs.Common.{◌≡◌, ◌∙◌, ◌⊎◌, inl, inr, ℕ, ze
 use Rattle.std.proofs.lemmas.List.{take-append-le, drop-append-le, take-take, drop_more, take_more, take_more_set, drop-set-lt, drop_all}
 use Rattle.mse_base.specs.Rows.{row_items, start, row}
 use Rattle.block_list.specs.Starts.{starts_from, starts_of, plus_each, AreStartsUpTo}
-use Rattle.block_list.proofs.Joining.{start_more, start_all}
-use Rattle.block_list.proofs.Ranging.{gone_front, gone_back, gone_count, row_count}
+use Rattle.block_list.proofs.RowItems.{start_more, start_all}
+use Rattle.block_list.proofs.RemovedStretch.{gone_front, gone_back, gone_count, row_count}
 
 pub length_starts : {T : Type 0} (n : ℕ) (rows : List (List T)) → length (starts_from n rows) ≡ length rows
 length_starts n [] = refl

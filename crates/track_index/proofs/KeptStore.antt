@@ -17,7 +17,7 @@ use Rattle.track_index.specs.Order.{entries_with, entries_with_all, entry_of, sp
 use Rattle.track_index.specs.Repair.{AreTimed}
 use Rattle.track_index.specs.Syncs.{IsToldBy, AreSyncsOf}
 use Rattle.track_index.specs.Indexed.{FrameIndex, IsIndexed}
-use Rattle.track_index.proofs.Ordering.{each_to_ordered, ordered_push}
+use Rattle.track_index.proofs.EntryOrder.{each_to_ordered, ordered_push}
 
 -- ---- one more frame
 
