@@ -6,8 +6,10 @@ use Rattle.std.proofs.lemmas.Int.{ints}
 use Rattle.mse_base.specs.Time.{IsTick, IsFloor, floor_div}
 use Rattle.mse_base.proofs.Floors.{floor_is}
 use Rattle.eviction.specs.Evicting.{first_of}
-use Rattle.eviction.specs.Steps.{IsAmong, IsLatest, is_below, times_between}
-use Rattle.eviction.proofs.Times.{IsRising, all_along, filter-step, filter_none, first_least, first_none}
+use Rattle.eviction.specs.Steps.{IsLatest, is_below, times_between}
+use Rattle.eviction.specs.Times.{IsAmong}
+use Rattle.eviction.specs.Times.{IsRising}
+use Rattle.eviction.proofs.Times.{all_along, filter-step, filter_none, first_least, first_none}
 use Rattle.eviction.proofs.Ranges.{and_parts, lt_of, not_lt_of, no_lt, split_latest}
 
 -- ---- the middle

@@ -9,11 +9,12 @@ use Rattle.track_store.specs.Kept.{AreSoundAndCountable, AreEndedBy, AreStillSou
 use Rattle.track_store.specs.State.{TrackState}
 use Rattle.mse_base.specs.Moments.{time_or, is_at_or_before}
 use Rattle.range_removal.specs.Removal.{tracks_after_removal}
-use Rattle.range_removal.proofs.Removing.{kept_removed, ends_removed, still_removed}
+use Rattle.range_removal.proofs.Removals.{kept_removed, ends_removed, still_removed}
 use Rattle.track_store.proofs.StillSound.{still_same, still_both}
 use Rattle.eviction.specs.Evicting.{RemovalRange, first_of, lead_of, tracks_after_eviction, sync_times, frames_of, removal_ranges, is_up_to_position, is_after_position, ranges_in_order, has_room, tracks_while_full}
 use Rattle.eviction.specs.Steps.{times_at, times_from, times_between, ranges_back, left_before, left_after}
-use Rattle.eviction.proofs.Times.{IsRising, first_least, each_of, filter-each, filter_both}
+use Rattle.eviction.specs.Times.{IsRising}
+use Rattle.eviction.proofs.Times.{first_least, each_of, filter-each, filter_both}
 use Rattle.eviction.proofs.Syncs.{rising_times, times_removed, is_gone}
 use Rattle.eviction.proofs.Ranges.{from_is, from_first, from_next, next_stay, after_stay, no_more, ends-step, back_is, stays_of, and_parts, lt_of, le_of}
 

@@ -13,7 +13,8 @@ use Rattle.mse_base.specs.Moments.{is_before, greatest, greater_of, is_video}
 use Rattle.track_store.specs.Frames.{starts}
 use Rattle.track_store.specs.State.{TrackState, state_of, states_of}
 use Rattle.eviction.specs.Evicting.{first_of, frames_of, lead_of, sync_times}
-use Rattle.eviction.specs.Steps.{IsAmong, times_at}
+use Rattle.eviction.specs.Steps.{times_at}
+use Rattle.eviction.specs.Times.{IsAmong}
 use Rattle.eviction.proofs.Times.{each_of, filter_same, filter_none, all_along}
 use Rattle.eviction.proofs.Syncs.{times_under}
 

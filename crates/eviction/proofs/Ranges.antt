@@ -8,8 +8,10 @@ use Rattle.mse_base.specs.declared.ticks.Moment.TheVariants.{Nan, At, Infinite}
 use Rattle.mse_base.specs.Moments.{is_before, is_at_or_before}
 use Rattle.mse_base.specs.Moments.{time_or}
 use Rattle.eviction.specs.Evicting.{RemovalRange, first_of, removal_ranges, is_up_to_position, is_after_position}
-use Rattle.eviction.specs.Steps.{IsAmong, IsLatest, is_below, ranges_back, times_from, times_between}
-use Rattle.eviction.proofs.Times.{IsRising, all_along, all_both, all_has, each_of, filter-step, filter_all, filter_none, filter_same, filter_both, first_least, first_none}
+use Rattle.eviction.specs.Steps.{IsLatest, is_below, ranges_back, times_from, times_between}
+use Rattle.eviction.specs.Times.{IsAmong}
+use Rattle.eviction.specs.Times.{IsRising}
+use Rattle.eviction.proofs.Times.{all_along, all_both, all_has, each_of, filter-step, filter_all, filter_none, filter_same, filter_both, first_least, first_none}
 use Rattle.eviction.proofs.Syncs.{is_gone, gone_to}
 
 -- ---- single times

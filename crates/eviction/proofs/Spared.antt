@@ -16,9 +16,10 @@ use Rattle.track_store.specs.State.{TrackState}
 use Rattle.track_store.proofs.Clearing.{is_frame_gone, cleared-goes, cleared-stays, cleared-cleared, cleared-nothing}
 use Rattle.range_removal.specs.Removal.{remove_end, track_after_removal, tracks_after_removal}
 use Rattle.eviction.specs.Evicting.{RemovalRange, has_time, frames_of, lead_of, sync_times, removal_ranges, is_up_to_position, is_after_position, ranges_in_order, has_room, tracks_while_full, tracks_after_eviction}
-use Rattle.eviction.specs.Steps.{IsAmong}
+use Rattle.eviction.specs.Times.{IsAmong}
 use Rattle.eviction.specs.Spared.{HasRange, IsLeftOf, IsSparedIn}
-use Rattle.eviction.proofs.Times.{IsRising, all_has}
+use Rattle.eviction.specs.Times.{IsRising}
+use Rattle.eviction.proofs.Times.{all_has}
 use Rattle.eviction.proofs.Syncs.{rising_times, times-each_sync}
 
 -- ---- lists of ranges

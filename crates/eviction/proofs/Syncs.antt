@@ -1,5 +1,5 @@
 -- The times of the random access points of a list of frames, and of what a removal leaves of it.
-use Rattle.std.proofs.Common.{◌≡◌, ◌∙◌, ℕ, ℤ, ◌≤ℤ◌, int_lt, int_le, Bool, true, false, not, cond, ◌&&◌, ◌||◌, List, [], ◌∷◌, filter, fold, slice_get, Option, Some, None, refl, sym, ap, arith}
+use Rattle.std.proofs.Common.{◌≡◌, ◌∙◌, ℕ, ℤ, ◌≤ℤ◌, int_lt, int_le, Bool, true, false, not, cond, ◌&&◌, ◌||◌, List, [], ◌∷◌, filter, fold, slice_get, Option, Some, None, refl, sym, ap, arith, inl, inr, ◌↔◌}
 use Rattle.std.specs.List.{AllByRecursion}
 use Rattle.std.specs.Option.{option_map}
 use Rattle.std.proofs.lemmas.Int.{ints}
@@ -15,7 +15,8 @@ use Rattle.track_store.specs.Frames.{is_between}
 use Rattle.range_removal.specs.Removal.{remove_end, track_after_removal, tracks_after_removal}
 use Rattle.eviction.specs.Evicting.{with_time, first_of, sync_times, frames_of}
 use Rattle.eviction.specs.Steps.{times_at}
-use Rattle.eviction.proofs.Times.{IsRising, rising_fold, filter-step, filter-fold, fold-each}
+use Rattle.eviction.specs.Times.{IsRising, IsAmong, HasSyncAt}
+use Rattle.eviction.proofs.Times.{rising_fold, fold_has, all_has, filter-step, filter-fold, fold-each}
 
 -- the random access points, in order of appending
 abbrev pub syncs : List Stored → List ℤ
@@ -143,3 +144,25 @@ syncs_under h (f ∷ fs) k = (k.0, syncs_under h fs k.1)
 
 pub times_under : (h : ℤ) (fs : List Stored) → greatest (starts fs) ≡ Some h → AllByRecursion (λ t. t ≤ℤ h) (sync_times fs)
 times_under h fs e = times-each (λ t. t ≤ℤ h) fs (syncs_under h fs (greater_bounds None (starts fs) h e).0)
+
+-- ---- the times are those of the random access points
+
+sync-among : (s : Bool) (f : Stored) (fs : List Stored) (t : ℤ) → f.frame.sync ≡ s → (HasSyncAt t fs → IsAmong t (syncs fs)) → HasSyncAt t (f ∷ fs) → IsAmong t (starts (cond s (f ∷ filter (λ g. g.frame.sync) fs) (filter (λ g. g.frame.sync) fs)))
+sync-among true f fs t e k (inl h) = inl h.1
+sync-among true f fs t e k (inr h) = inr (k h)
+sync-among false f fs t e k (inl h) = (let own : f.frame.sync ≡ true = h.0 in cc)
+sync-among false f fs t e k (inr h) = k h
+
+syncs_have : (t : ℤ) (fs : List Stored) → HasSyncAt t fs → IsAmong t (syncs fs)
+syncs_have t [] h = absurd h
+syncs_have t (f ∷ fs) h = sync-among f.frame.sync f fs t refl (syncs_have t fs) h
+
+each_in : (all fs : List Stored) → ((t : ℤ) → HasSyncAt t fs → HasSyncAt t all) → AllByRecursion (λ f. f.frame.sync ≡ true → HasSyncAt f.frame.pts all) fs
+each_in all [] k = tt
+each_in all (f ∷ fs) k = ((λ e. k f.frame.pts (inl (e, refl))), each_in all fs (λ t h. k t (inr h)))
+
+pub times_exactly : (t : ℤ) (fs : List Stored) → IsAmong t (sync_times fs) ↔ HasSyncAt t fs
+times_exactly t fs = (
+  (λ h. all_has (λ u. HasSyncAt u fs) t (sync_times fs) (times-each_sync (λ u. HasSyncAt u fs) fs (each_in fs fs (λ u k. k))) h),
+  (λ h. fold_has [] (syncs fs) t (syncs_have t fs h)),
+)

@@ -3,7 +3,7 @@ use Rattle.std.proofs.Common.{◌≡◌, ◌∙◌, ℤ, ◌<ℤ◌, ◌≤ℤ�
 use Rattle.std.specs.List.{AllByRecursion}
 use Rattle.std.proofs.lemmas.Int.{ints}
 use Rattle.eviction.specs.Evicting.{with_time, first_of}
-use Rattle.eviction.specs.Steps.{IsAmong}
+use Rattle.eviction.specs.Times.{IsAmong, IsRising}
 
 -- ---- what holds of all
 
@@ -25,10 +25,6 @@ all_has P t (u ∷ ts) h (inl e) = subst P e h.0
 all_has P t (u ∷ ts) h (inr e) = all_has P t ts h.1 e
 
 -- ---- with one more
-
-abbrev pub IsRising : List ℤ → Type 0
-IsRising [] = Unit {0}
-IsRising (t ∷ ts) = AllByRecursion (λ u. t <ℤ u) ts × IsRising ts
 
 with-pick : (u t : ℤ) (us : List ℤ) (P : ℤ → Type 0) (a b : Bool) (rest : List ℤ) → P t → P u → AllByRecursion P us → AllByRecursion P rest → AllByRecursion P (cond a (t ∷ u ∷ us) (cond b (u ∷ rest) (u ∷ us)))
 with-pick u t us P true b rest p q all more = (p, (q, all))
@@ -64,6 +60,35 @@ rising_with (u ∷ us) t h = rising-pick u t us (with_time us t) (int_lt t u) (i
 pub rising_fold : (us ts : List ℤ) → IsRising us → IsRising (fold with_time us ts)
 rising_fold us [] h = h
 rising_fold us (t ∷ ts) h = rising_fold (with_time us t) ts (rising_with us t h)
+
+-- each time that comes in is one of the list, and each that was one stays so
+has-pick : (a b : Bool) (t u : ℤ) (us rest : List ℤ) → int_lt t u ≡ a → int_lt u t ≡ b → IsAmong t rest → IsAmong t (cond a (t ∷ u ∷ us) (cond b (u ∷ rest) (u ∷ us)))
+has-pick true b t u us rest p q h = inl refl
+has-pick false true t u us rest p q h = inr h
+has-pick false false t u us rest p q h = inl (same_time t u p q)
+
+with_has : (us : List ℤ) (t : ℤ) → IsAmong t (with_time us t)
+with_has [] t = inl refl
+with_has (u ∷ us) t = has-pick (int_lt t u) (int_lt u t) t u us (with_time us t) refl refl (with_has us t)
+
+keep-pick : (a b : Bool) (v t u : ℤ) (us rest : List ℤ) → (IsAmong v us → IsAmong v rest) → IsAmong v (u ∷ us) → IsAmong v (cond a (t ∷ u ∷ us) (cond b (u ∷ rest) (u ∷ us)))
+keep-pick true b v t u us rest k h = inr h
+keep-pick false true v t u us rest k (inl e) = inl e
+keep-pick false true v t u us rest k (inr h) = inr (k h)
+keep-pick false false v t u us rest k h = h
+
+with_keeps : (us : List ℤ) (t v : ℤ) → IsAmong v us → IsAmong v (with_time us t)
+with_keeps [] t v h = absurd h
+with_keeps (u ∷ us) t v h = keep-pick (int_lt t u) (int_lt u t) v t u us (with_time us t) (with_keeps us t v) h
+
+fold_keeps : (us ts : List ℤ) (v : ℤ) → IsAmong v us → IsAmong v (fold with_time us ts)
+fold_keeps us [] v h = h
+fold_keeps us (t ∷ ts) v h = fold_keeps (with_time us t) ts v (with_keeps us t v h)
+
+pub fold_has : (us ts : List ℤ) (v : ℤ) → IsAmong v ts → IsAmong v (fold with_time us ts)
+fold_has us [] v h = absurd h
+fold_has us (t ∷ ts) v (inl e) = fold_keeps (with_time us t) ts v (subst (λ (z : ℤ). IsAmong z (with_time us t)) e (with_has us t))
+fold_has us (t ∷ ts) v (inr h) = fold_has (with_time us t) ts v h
 
 -- ---- filters
 

@@ -1,3 +1,4 @@
 pub mod Evicting
 pub mod Spared
+pub mod Times
 pub mod Steps

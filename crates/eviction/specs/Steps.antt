@@ -1,11 +1,12 @@
--- Removal ranges one after another, as the code finds them: by what is left of the lead track.
-use Rattle.std.specs.Prelude.{◌≡◌, ◌⊎◌, ℕ, ℤ, ◌≤ℤ◌, int_le, int_lt, Bool, true, ◌&&◌, List, [], ◌∷◌, filter, reverse, slice_get, Option, Some, None}
+-- A device of the proof: removal ranges one after another, as the code finds them, by what is left of the lead track.
+use Rattle.std.specs.Prelude.{◌≡◌, ℕ, ℤ, ◌≤ℤ◌, int_le, int_lt, Bool, true, ◌&&◌, List, [], ◌∷◌, filter, reverse, slice_get, Option, Some, None}
 use Rattle.std.specs.List.{AllByRecursion}
 use Rattle.mse_base.specs.declared.ticks.Moment.{Moment}
 use Rattle.mse_base.specs.declared.ticks.Moment.TheVariants.{At}
 use Rattle.track_store.specs.State.{TrackState}
 use Rattle.mse_base.specs.Moments.{time_or}
 use Rattle.eviction.specs.declared.need.Need.{Need}
+use Rattle.eviction.specs.Times.{IsAmong}
 use Rattle.eviction.specs.Evicting.{RemovalRange, frames_of, sync_times, removal_ranges, is_up_to_position, tracks_while_full}
 
 -- the times of the track at place k
@@ -46,11 +47,6 @@ abbrev pub tracks_without_left : Need → Moment → (List TrackState → List R
     → List TrackState → List TrackState
 tracks_without_left need duration left ts =
     tracks_while_full need.new_bytes need.quota duration (left ts) ts
-
--- the time is one of the list
-abbrev pub IsAmong : ℤ → List ℤ → Type 0
-IsAmong t [] = ⊥
-IsAmong t (u ∷ us) = (u ≡ t) ⊎ IsAmong t us
 
 -- the latest of the times before the next
 pub record IsLatest (next : Option ℤ) (ts : List ℤ) (t : ℤ) : Type 0 where

@@ -3,7 +3,8 @@ ghost use Rattle.std.specs.List.{AllByRecursion};
 ghost use Rattle.mse_base.specs.Time.{IsTick, floor_div, tick};
 ghost use Rattle.track_store.specs.State.{states_of};
 ghost use Rattle.eviction.specs.Evicting.{first_of};
-ghost use Rattle.eviction.specs.Steps.{IsAmong, IsLatest, is_below, times_at, times_between};
+ghost use Rattle.eviction.specs.Steps.{IsLatest, is_below, times_at, times_between};
+ghost use Rattle.eviction.specs.Times.{IsAmong};
 
 use crate::lead::{highest_start, sync_after};
 use mse_base::Ticks;

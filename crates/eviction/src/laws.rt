@@ -1,12 +1,22 @@
 //! What follows from the definitions of this crate: functions that do nothing, with the laws as
 //! their contracts.
 
-ghost use Rattle.std.specs.Prelude.{◌≡◌, ℕ, ℤ, true, false, List, Some, slice_get, IfSome};
+ghost use Rattle.std.specs.Prelude.{◌≡◌, ◌↔◌, ℕ, ℤ, true, false, List, Some, slice_get, IfSome};
 ghost use Rattle.std.specs.List.{AllByRecursion};
 ghost use Rattle.mse_base.specs.declared.ticks.Moment.{Moment};
 ghost use Rattle.eviction.specs.Evicting.{RemovalRange, frames_of, has_time, lead_of, ranges_in_order, removal_ranges, sync_times, tracks_after_eviction};
 ghost use Rattle.eviction.specs.Spared.{HasRange, IsLeftOf, IsSparedIn};
+ghost use Rattle.eviction.specs.Times.{IsRising, IsAmong, HasSyncAt};
 ghost use Rattle.track_store.specs.State.{TrackState};
+ghost use Rattle.track_store.specs.declared.store.Stored.{Stored};
+
+/// The times between which the removal ranges lie are the presentation timestamps of the random
+/// access points and no others, each once and in ascending order.
+pub fn times_of_random_access_points()
+    ensures rising { (fs : List Stored) → IsRising (sync_times fs) }
+    ensures exactly { (t : ℤ) (fs : List Stored)
+        → IsAmong t (sync_times fs) ↔ HasSyncAt t fs }
+{}
 
 /// No range that is removed holds the current playback position.
 pub fn no_range_holds_the_position()

@@ -18,7 +18,7 @@ use Rattle.std.proofs.lemmas.List.{length-map, get_or-map}
 use Rattle.std.proofs.lemmas.List.Sums.{get_or-le-sum_by}
 use Rattle.track_store.specs.Frames.{bytes_of}
 use Rattle.frame_rules.specs.Put.{drop_reason, track_after_frame, answer_by_reason}
-use Rattle.track_store.specs.Kept.{bytes_in}
+use Rattle.track_store.specs.Kept.{bytes_in, IsCountable}
 use Rattle.frame_rules.specs.Place.{Placement, new_placement, marks_after_reset, with_reset_marks, track_after_reset, placement_in_track, placement_by_times, placement, is_over_limit, settings_after_frame, IsReadyForFrame}
 
 pub if_some_map : {X Y : Type 0} (o : Option X) (f : X → Y) (P : X → Type 0) (Q : Y → Type 0) → ((x : X) → P x → Q (f x)) → IfSome o P → IfSome (option_map f o) Q
@@ -47,10 +47,10 @@ together_needs None None None None need h = refl
 together_needs decode duration end first need h = absurd h
 
 unset_sound : (t : TrackState) → IsSound t → IsSound (record t { marks = record t.marks { last_decode = None; last_duration = None; highest_end = None; group_first = None; need_sync = true } })
-unset_sound t h = record { count = h.count; chained = h.chained; ascending = h.ascending; below = h.below; not_negative = h.not_negative; timed = h.timed; last_held = λ e. cc; together = refl; group_below = tt; group_sync = tt }
+unset_sound t h = record { chained = h.chained; ascending = h.ascending; below = h.below; not_negative = h.not_negative; last_held = λ e. cc; together = refl; group_below = tt; group_sync = tt }
 
 needing_sound : (t : TrackState) → IsSound t → IsSound (record t { marks = record t.marks { need_sync = true } })
-needing_sound t h = record { count = h.count; chained = h.chained; ascending = h.ascending; below = h.below; not_negative = h.not_negative; timed = h.timed; last_held = λ e. cc; together = together_needs _ t.marks.last_duration _ _ t.marks.need_sync h.together; group_below = h.group_below; group_sync = h.group_sync }
+needing_sound t h = record { chained = h.chained; ascending = h.ascending; below = h.below; not_negative = h.not_negative; last_held = λ e. cc; together = together_needs _ t.marks.last_duration _ _ t.marks.need_sync h.together; group_below = h.group_below; group_sync = h.group_sync }
 
 sound_either : (t : TrackState) (b : Bool) (m n : Marks) → IsSound (record t { marks = m }) → IsSound (record t { marks = n }) → IsSound (record t { marks = cond b m n })
 sound_either t true m n p q = p
@@ -121,14 +121,14 @@ sound_track : {S : Type 0} (frames : S → List Stored) (o : Option (Track S)) �
 sound_track frames None h = tt
 sound_track frames (Some t) h = h
 
-count_here : {S : Type 0} (frames : S → List Stored) (o : Option (Track S)) → IfSome o (λ t. IsSound (state_of frames t)) → IfSome o (λ t. t.marks.received ≤ 2 ^ 62)
-count_here frames None h = tt
-count_here frames (Some t) h = h.count
+count_track : {S : Type 0} (frames : S → List Stored) (o : Option (Track S)) → IfSome (option_map (state_of frames) o) IsCountable → IfSome o (λ t. t.marks.received ≤ 2 ^ 62)
+count_track frames None h = tt
+count_track frames (Some t) h = h
 
-pub ready_sound : {S : Type 0} (frames : S → List Stored) (spare : S → ℕ) (ts : List (Track S)) (i : ℕ) (bytes : ℕ) → IfSome (slice_get (states_of frames ts) i) IsSound → IfSome (slice_get ts i) (λ t. 1 ≤ spare t.store) → IfSome (slice_get ts i) (λ t. false ≡ is_over_limit t.marks.received (bytes_in (states_of frames ts)) bytes) → IfSome (slice_get ts i) (λ t. IsReadyForFrame frames spare bytes t)
-ready_sound frames spare ts i bytes h room fits =
+pub ready_sound : {S : Type 0} (frames : S → List Stored) (spare : S → ℕ) (ts : List (Track S)) (i : ℕ) (bytes : ℕ) → IfSome (slice_get (states_of frames ts) i) IsSound → IfSome (slice_get (states_of frames ts) i) IsCountable → IfSome (slice_get ts i) (λ t. 1 ≤ spare t.store) → IfSome (slice_get ts i) (λ t. false ≡ is_over_limit t.marks.received (bytes_in (states_of frames ts)) bytes) → IfSome (slice_get ts i) (λ t. IsReadyForFrame frames spare bytes t)
+ready_sound frames spare ts i bytes h few room fits =
     let sound = sound_track frames (slice_get ts i) (rw (slice_get-map (state_of frames) ts i) at h) in
-    ready_at frames spare ts i bytes sound room (count_here frames (slice_get ts i) sound) fits
+    ready_at frames spare ts i bytes sound room (count_track frames (slice_get ts i) (rw (slice_get-map (state_of frames) ts i) at few)) fits
 
 -- where neither step has anything to do, no marks change
 idle_marks : {S : Type 0} (w : Timing) (t : Track S) → w.discontinuity ≡ false → w.starts_group ≡ false → t ≡ with_reset_marks w t

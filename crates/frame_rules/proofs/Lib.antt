@@ -1,6 +1,6 @@
 pub mod AllTracks
 pub mod Loops
 pub mod PlainFrames
-pub mod Putting
+pub mod PutFrames
 pub mod Rooms
 pub mod SoundPlaced

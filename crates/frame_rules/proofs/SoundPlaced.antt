@@ -15,7 +15,7 @@ use Rattle.frame_rules.specs.declared.timing.Timing.{Timing}
 use Rattle.frame_rules.specs.Timing.{raw_time, settings_at_group_start, offset_to, timing_in_pass, is_discontinuous, settings_after_discontinuity, timing_of, IsTimingOf}
 use Rattle.frame_rules.specs.Put.{track_after_frame, answer_by_reason, drop_reason}
 use Rattle.frame_rules.specs.declared.answer.Placed.{Placed}
-use Rattle.track_store.specs.Kept.{bytes_in, AreSoundAndCountable, AreEndedBy, AreStillSound}
+use Rattle.track_store.specs.Kept.{bytes_in, IsCountable, AreSoundAndCountable, AreEndedBy, AreStillSound}
 use Rattle.frame_rules.specs.Place.{Placement, track_after_reset, placement_in_track, placement_at_times, placement_by_times, placement_in, placement, is_over_limit, new_placement, settings_after_frame, limit_after}
 use Rattle.frame_rules.specs.declared.answer.Placed.TheVariants as placed_as
 use Rattle.std.proofs.lemmas.List.Sums.{sum_by-cons}
@@ -24,7 +24,7 @@ use Rattle.track_store.specs.declared.tracks.Track.{Track}
 use Rattle.track_store.specs.Frames.{bytes_of}
 use Rattle.track_store.proofs.Limits.{ended_later, max_left}
 use Rattle.track_store.proofs.StillSound.{still_same, still_map, still_both, still_set, all_still}
-use Rattle.frame_rules.proofs.Putting.{sound_put, used_put, end_put}
+use Rattle.frame_rules.proofs.PutFrames.{sound_put, counted_put, used_put, end_put}
 use Rattle.frame_rules.proofs.AllTracks.{sound_break, received_broken, fits_of}
 
 -- what holds of each value that a chain of steps gives
@@ -109,13 +109,29 @@ bytes_set (s ∷ ts) (suc i) t u n e h =
     let new = sum_by-cons (λ x. bytes_of x.frames) s (set ts i u) in
     omega arith
 
--- of the tracks that are left each that was sound is sound, and the bytes of all can be counted
+counted_either : (b : Bool) (k m : Marks) → k.received ≤ 2 ^ 62 → m.received ≤ 2 ^ 62 → (cond b k m).received ≤ 2 ^ 62
+counted_either true k m p q = p
+counted_either false k m p q = q
+
+counted_reset : (w : Timing) (ts : List TrackState) → AllByRecursion IsCountable ts → AllByRecursion IsCountable (map (track_after_reset w) ts)
+counted_reset w [] h = h
+counted_reset w (t ∷ ts) h =
+    (counted_either w.discontinuity _ _ h.0 (counted_either w.starts_group (record t.marks { need_sync = true }) t.marks h.0 h.0), counted_reset w ts h.1)
+
+counted_set : (ts : List TrackState) (i : ℕ) (u : TrackState) → AllByRecursion IsCountable ts → IsCountable u → AllByRecursion IsCountable (set ts i u)
+counted_set [] i u h own = h
+counted_set (t ∷ ts) zero u h own = (own, h.1)
+counted_set (t ∷ ts) (suc i) u h own = (h.0, counted_set ts i u h.1 own)
+
+-- of the tracks that are left each that was sound is sound, and the frames received and the bytes of all can be
+-- counted
 pub record IsFirm (ts us : List TrackState) : Type 0 where
   pub sound : AreStillSound ts us
+  pub counted : AllByRecursion IsCountable ts → AllByRecursion IsCountable us
   pub small : bytes_in us < 2 ^ 62
 
 firm_same : (ts : List TrackState) → bytes_in ts < 2 ^ 62 → IsFirm ts ts
-firm_same ts small = record { sound = still_same ts; small = small }
+firm_same ts small = record { sound = still_same ts; counted = λ h. h; small = small }
 
 firm_in : (o : Option TrackState) (w : Timing) (f : CodedFrame) (i : ℕ) (ts : List TrackState) → slice_get ts i ≡ o → IfSome o (λ t. t.marks.received < 2 ^ 62) → bytes_in ts + length f.payload < 2 ^ 62 → pos 0 ≤ℤ w.settings.window_start → pos 0 ≤ℤ f.dur → IsTimingOf f w → IsFirm ts (placement_in_track o w f i ts).tracks
 firm_in None w f i ts e less fits low lasts timing = firm_same ts (omega arith)
@@ -123,6 +139,7 @@ firm_in (Some t) w f i ts e less fits low lasts timing =
     let bytes = bytes_set ts i t (track_after_frame w f t) (length f.payload) e (used_put w f t) in
     record {
       sound = still_set ts i t (track_after_frame w f t) e (λ h. sound_put w f t h less low lasts timing);
+      counted = λ h. counted_set ts i (track_after_frame w f t) h (counted_put w f t less);
       small = omega arith;
     }
 
@@ -131,28 +148,28 @@ firm_at w f i ts less fits low lasts timing =
     let reset = map (track_after_reset w) ts in
     let same = bytes_reset w ts in
     let put = firm_in (slice_get reset i) w f i reset refl (less_reset w ts i less) (omega arith) low lasts timing in
-    record { sound = still_both ts reset _ (still_map (track_after_reset w) ts (sound_break w)) put.sound; small = put.small }
+    record { sound = still_both ts reset _ (still_map (track_after_reset w) ts (sound_break w)) put.sound; counted = λ h. put.counted (counted_reset w ts h); small = put.small }
 
 firm_times : (o : Option Timing) (s : Settings) (f : CodedFrame) (i : ℕ) (ts : List TrackState) → IfSome o (λ w. HasSameWindowStart s w.settings) → IfSome o (IsTimingOf f) → IfSome (slice_get ts i) (λ t. t.marks.received < 2 ^ 62) → bytes_in ts + length f.payload < 2 ^ 62 → pos 0 ≤ℤ s.window_start → pos 0 ≤ℤ f.dur → IsFirm ts (placement_by_times o s f i ts).tracks
 firm_times None s f i ts same timing less fits low lasts = firm_same ts (omega arith)
 firm_times (Some w) s f i ts same timing less fits low lasts = firm_at w f i ts less fits (subst (λ (z : ℤ). pos 0 ≤ℤ z) (sym same) low) lasts timing
 
-firm_cond : (b : Bool) (t : TrackState) (s : Settings) (f : CodedFrame) (i : ℕ) (ts : List TrackState) → b ≡ is_over_limit t.marks.received (bytes_in ts) (length f.payload) → slice_get ts i ≡ Some t → IsSound t → bytes_in ts < 2 ^ 62 → pos 0 ≤ℤ s.window_start → pos 0 ≤ℤ f.dur → IsFirm ts (cond b (new_placement placed_as.Counts ts s) (placement_by_times (timing_of s t.marks f) s f i ts)).tracks
+firm_cond : (b : Bool) (t : TrackState) (s : Settings) (f : CodedFrame) (i : ℕ) (ts : List TrackState) → b ≡ is_over_limit t.marks.received (bytes_in ts) (length f.payload) → slice_get ts i ≡ Some t → IsCountable t → bytes_in ts < 2 ^ 62 → pos 0 ≤ℤ s.window_start → pos 0 ≤ℤ f.dur → IsFirm ts (cond b (new_placement placed_as.Counts ts s) (placement_by_times (timing_of s t.marks f) s f i ts)).tracks
 firm_cond true t s f i ts full e own small low lasts = firm_same ts small
 firm_cond false t s f i ts full e own small low lasts =
-    let both = fits_of t.marks.received (bytes_in ts) (length f.payload) own.count full in
+    let both = fits_of t.marks.received (bytes_in ts) (length f.payload) own full in
     firm_times (timing_of s t.marks f) s f i ts (times_window s t.marks f) (timing_is s t.marks f) (rw e both.0) both.1 low lasts
 
-firm_of : (o : Option TrackState) (ts : List TrackState) (s : Settings) (i : ℕ) (f : CodedFrame) → slice_get ts i ≡ o → IfSome o IsSound → bytes_in ts < 2 ^ 62 → pos 0 ≤ℤ s.window_start → pos 0 ≤ℤ f.dur → IsFirm ts (placement_in o ts s i f).tracks
+firm_of : (o : Option TrackState) (ts : List TrackState) (s : Settings) (i : ℕ) (f : CodedFrame) → slice_get ts i ≡ o → IfSome o IsCountable → bytes_in ts < 2 ^ 62 → pos 0 ≤ℤ s.window_start → pos 0 ≤ℤ f.dur → IsFirm ts (placement_in o ts s i f).tracks
 firm_of None ts s i f e own small low lasts = firm_same ts small
 firm_of (Some t) ts s i f e own small low lasts = firm_cond (is_over_limit t.marks.received (bytes_in ts) (length f.payload)) t s f i ts refl e own small low lasts
 
 -- the same of tracks that are what the definition leaves
-pub firm_left : (news : List TrackState) (o : Placement) (ts : List TrackState) (s : Settings) (i : ℕ) (f : CodedFrame) → o.tracks ≡ news → o ≡ placement ts s i f → IfSome (slice_get ts i) IsSound → bytes_in ts < 2 ^ 62 → pos 0 ≤ℤ s.window_start → pos 0 ≤ℤ f.dur → IsFirm ts news
-firm_left news o ts s i f own is sound small low lasts = subst (λ (us : List TrackState). IsFirm ts us) (sym (ap (λ p. p.tracks) is) ∙ own) (firm_of (slice_get ts i) ts s i f refl sound small low lasts)
+pub firm_left : (news : List TrackState) (o : Placement) (ts : List TrackState) (s : Settings) (i : ℕ) (f : CodedFrame) → o.tracks ≡ news → o ≡ placement ts s i f → IfSome (slice_get ts i) IsCountable → bytes_in ts < 2 ^ 62 → pos 0 ≤ℤ s.window_start → pos 0 ≤ℤ f.dur → IsFirm ts news
+firm_left news o ts s i f own is few small low lasts = subst (λ (us : List TrackState). IsFirm ts us) (sym (ap (λ p. p.tracks) is) ∙ own) (firm_of (slice_get ts i) ts s i f refl few small low lasts)
 
 pub kept_of : (ts us : List TrackState) → IsFirm ts us → AreSoundAndCountable ts → AreSoundAndCountable us
-kept_of ts us firm h = record { sound = all_still ts us firm.sound h.sound; small = firm.small }
+kept_of ts us firm h = record { sound = all_still ts us firm.sound h.sound; counted = firm.counted h.counted; small = firm.small }
 
 -- the window stays
 answer_window : (answer : Placed) (w : Timing) → HasSameWindowStart w.settings (settings_after_frame answer w)

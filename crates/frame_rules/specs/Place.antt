@@ -33,15 +33,16 @@ new_placement answer tracks settings = record {
 -- steps 1.6.2 to 1.6.5 and 1.3.3, on each track buffer: after a discontinuity its marks are unset; where the
 -- frame begins at a group start timestamp, a random access point is needed
 abbrev pub marks_after_reset : Timing → Marks → Marks
-marks_after_reset w m =
-    if w.discontinuity then unset_marks m else (if w.starts_group then marks_needing_sync m else m)
+marks_after_reset timing m =
+    if timing.discontinuity then unset_marks m
+    else (if timing.starts_group then marks_needing_sync m else m)
 
 abbrev pub track_after_reset : Timing → TrackState → TrackState
-track_after_reset w t = record t { marks = marks_after_reset w t.marks }
+track_after_reset timing t = record t { marks = marks_after_reset timing t.marks }
 
 -- the same of a track with its store
 abbrev pub with_reset_marks : {S : Type 0} → Timing → Track S → Track S
-with_reset_marks w t = record t { marks = marks_after_reset w t.marks }
+with_reset_marks timing t = record t { marks = marks_after_reset timing t.marks }
 
 -- a count would pass its limit: of the frames received, or of the bytes stored with those of the frame
 abbrev pub is_over_limit : ℕ → ℕ → ℕ → Bool
@@ -50,32 +51,34 @@ is_over_limit received bytes more = (received == 2 ^ 62) || nat_le (2 ^ 62) (byt
 -- steps 1.20 and 1.21: after a stored frame the group end timestamp is not below its end, and where timestamps
 -- are generated the offset is its end
 abbrev pub settings_after_frame : Placed → Timing → Settings
-settings_after_frame placed_as.Stored w = record w.settings {
-  group_end = int_max w.settings.group_end w.end;
-  offset = if w.settings.generate then w.end else w.settings.offset;
+settings_after_frame placed_as.Stored timing = record timing.settings {
+  group_end = int_max timing.settings.group_end timing.end;
+  offset = if timing.settings.generate then timing.end else timing.settings.offset;
 }
-settings_after_frame (placed_as.Dropped why) w = w.settings
-settings_after_frame placed_as.TimeRange w = w.settings
-settings_after_frame placed_as.Counts w = w.settings
+settings_after_frame (placed_as.Dropped why) timing = timing.settings
+settings_after_frame placed_as.TimeRange timing = timing.settings
+settings_after_frame placed_as.Counts timing = timing.settings
 
 -- steps 1.8 to 1.21, for a frame of the track at place i
 abbrev pub placement_in_track : Option TrackState → Timing → CodedFrame → ℕ → List TrackState
     → Placement
-placement_in_track None w f i ts = new_placement placed_as.Counts ts w.settings
-placement_in_track (Some t) w f i ts =
-    let answer = answer_by_reason (drop_reason w f.sync t.marks.need_sync) in
-    new_placement answer (slice_set ts i (track_after_frame w f t)) (settings_after_frame answer w)
+placement_in_track None timing f i ts = new_placement placed_as.Counts ts timing.settings
+placement_in_track (Some t) timing f i ts =
+    let answer = answer_by_reason (drop_reason timing f.sync t.marks.need_sync) in
+    new_placement answer (slice_set ts i (track_after_frame timing f t))
+    (settings_after_frame answer timing)
 
 -- the same, after what steps 1.3 and 1.6 do to all track buffers
 abbrev pub placement_at_times : Timing → CodedFrame → ℕ → List TrackState → Placement
-placement_at_times w f i ts =
-    let reset = map (track_after_reset w) ts in placement_in_track (slice_get reset i) w f i reset
+placement_at_times timing f i ts =
+    let reset = map (track_after_reset timing) ts in
+    placement_in_track (slice_get reset i) timing f i reset
 
 -- by the frame's times: where there are none, nothing happens
 abbrev pub placement_by_times : Option Timing → Settings → CodedFrame → ℕ → List TrackState
     → Placement
 placement_by_times None s f i ts = new_placement placed_as.TimeRange ts s
-placement_by_times (Some w) s f i ts = placement_at_times w f i ts
+placement_by_times (Some timing) s f i ts = placement_at_times timing f i ts
 
 -- where a count would pass its limit, nothing happens
 abbrev pub placement_in : Option TrackState → List TrackState → Settings → ℕ → CodedFrame

@@ -66,13 +66,13 @@ settings_after_discontinuity s p =
 -- steps 1.1 to 1.7: after a discontinuity they start over with all marks unset, so that there is no second
 abbrev pub timing_of : Settings → Marks → CodedFrame → Option Timing
 timing_of s m f = do
-  w ← timing_in_pass s f
-  if is_discontinuous m w.dts
+  timing ← timing_in_pass s f
+  if is_discontinuous m timing.dts
       then (do
-        v ← timing_in_pass (settings_after_discontinuity w.settings w.pts) f
+        v ← timing_in_pass (settings_after_discontinuity timing.settings timing.pts) f
         Some (record v { discontinuity = true }))
-      else Some w
+      else Some timing
 
 -- step 1.7: the frame end timestamp is the sum of the presentation timestamp and the frame duration
 abbrev pub IsTimingOf : CodedFrame → Timing → Type 0
-IsTimingOf f w = (w.end ≡ w.pts +ℤ f.dur) × IsTick (w.pts +ℤ f.dur)
+IsTimingOf f timing = (timing.end ≡ timing.pts +ℤ f.dur) × IsTick (timing.pts +ℤ f.dur)

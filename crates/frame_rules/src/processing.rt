@@ -1,11 +1,11 @@
-ghost use Rattle.std.specs.Prelude.{◌≡◌, ◌+◌, ◌<◌, ◌≤◌, ◌^◌, ℕ, ℤ, pos, ◌≤ℤ◌, ◌||◌, length, map, slice_get, slice_set, false, Some, IfSome, OnSome};
+ghost use Rattle.std.specs.Prelude.{◌≡◌, ◌<◌, ◌≤◌, ◌^◌, ℤ, pos, ◌≤ℤ◌, ◌||◌, length, map, slice_get, slice_set, false, Some, IfSome, OnSome};
 ghost use Rattle.track_store.specs.State.{state_of, states_of};
-ghost use Rattle.track_store.specs.Sound.{IsSound};
-ghost use Rattle.track_store.specs.Kept.{bytes_in, AreSoundAndCountable, AreStillSound, HasSpareRoom, gaps_of, AreEndedBy};
+ghost use Rattle.track_store.specs.Kept.{bytes_in, gaps_of};
 ghost use Rattle.frame_rules.specs.Put.{drop_reason, track_after_frame, answer_by_reason};
 ghost use Rattle.frame_rules.specs.Plain.{timing_by};
 ghost use Rattle.frame_rules.specs.Timing.{timing_of, IsTimingOf};
-ghost use Rattle.frame_rules.specs.Place.{marks_after_reset, with_reset_marks, is_over_limit, settings_after_frame, new_placement, placement, placement_at_times, placement_by_times, IsReadyForFrame, IsRoomTakenAt, limit_after};
+ghost use Rattle.frame_rules.specs.Placing.{IsPlaceable, IsPlaced};
+ghost use Rattle.frame_rules.specs.Place.{marks_after_reset, with_reset_marks, is_over_limit, settings_after_frame, new_placement, placement_at_times, placement_by_times, IsReadyForFrame, IsRoomTakenAt};
 
 use crate::answer::Placed;
 use crate::storing::put;
@@ -106,7 +106,8 @@ fn plain_times_at<S: FrameStore>(
     frame: &CodedFrame,
 ) -> Option<Times>
     ensures timing { IfSome (slice_get tracks.now.items index) (λ t. IfSome result
-        (λ w. Some (timing_by settings.now w) ≡ timing_of settings.now t.marks frame.now)) }
+        (λ timing. Some (timing_by settings.now timing)
+        ≡ timing_of settings.now t.marks frame.now)) }
     ensures no_generate { OnSome result (settings.now.generate ≡ false) }
 {
     match tracks.get(index) {
@@ -287,29 +288,9 @@ pub fn place_with_used<S: FrameStore>(
     used: u64,
 ) -> Placed
     requires used { used ≡ bytes_in (states_of S.frames tracks.old.items) }
-    requires in_range { index < length tracks.old.items }
-    requires room { IfSome (slice_get tracks.old.items index) (λ t. 1 ≤ S.spare t.store) }
-    requires sound { IfSome (slice_get (states_of S.frames tracks.old.items) index) IsSound }
-    requires small { bytes_in (states_of S.frames tracks.old.items) < 2 ^ 62 }
-    requires window_start { pos 0 ≤ℤ settings.old.window_start }
-    requires dur_not_negative { pos 0 ≤ℤ frame.dur }
-    ensures placement { new_placement result (states_of S.frames tracks.new.items) settings.new
-        ≡ placement (states_of S.frames tracks.old.items) settings.old index frame }
-    ensures sound { AreStillSound (states_of S.frames tracks.old.items)
-        (states_of S.frames tracks.new.items) }
-    ensures small { bytes_in (states_of S.frames tracks.new.items) < 2 ^ 62 }
-    ensures sound_and_countable { AreSoundAndCountable (states_of S.frames tracks.old.items)
-        → AreSoundAndCountable (states_of S.frames tracks.new.items) }
-    ensures window_start { pos 0 ≤ℤ settings.new.window_start }
-    ensures ends { (limit : ℤ) → AreEndedBy limit (states_of S.frames tracks.old.items)
-        → AreEndedBy (limit_after result limit settings.new.group_end)
-        (states_of S.frames tracks.new.items) }
-    ensures spare { IsRoomTakenAt S.spare index tracks.old.items tracks.new.items }
-    ensures room { (n : ℕ) → HasSpareRoom S.spare (n + 1) tracks.old.items
-        → HasSpareRoom S.spare n tracks.new.items }
-    ensures gaps { gaps_of S.gap tracks.new.items ≡ gaps_of S.gap tracks.old.items }
-    ensures len { length tracks.new.items ≡ length tracks.old.items }
-    ensures places { tracks.new.spare ≡ tracks.old.spare }
+    requires placeable { IsPlaceable S.frames S.spare index frame settings.old tracks.old.items }
+    ensures { IsPlaced S.frames S.spare S.gap index frame settings.old tracks.old result
+        settings.new tracks.new }
 {
     if is_full(tracks, index, used, frame.payload.len()) {
         return Placed::Counts;
@@ -330,29 +311,9 @@ pub fn place<S: FrameStore>(
     index: usize,
     frame: CodedFrame,
 ) -> Placed
-    requires in_range { index < length tracks.old.items }
-    requires room { IfSome (slice_get tracks.old.items index) (λ t. 1 ≤ S.spare t.store) }
-    requires sound { IfSome (slice_get (states_of S.frames tracks.old.items) index) IsSound }
-    requires small { bytes_in (states_of S.frames tracks.old.items) < 2 ^ 62 }
-    requires window_start { pos 0 ≤ℤ settings.old.window_start }
-    requires dur_not_negative { pos 0 ≤ℤ frame.dur }
-    ensures placement { new_placement result (states_of S.frames tracks.new.items) settings.new
-        ≡ placement (states_of S.frames tracks.old.items) settings.old index frame }
-    ensures sound { AreStillSound (states_of S.frames tracks.old.items)
-        (states_of S.frames tracks.new.items) }
-    ensures small { bytes_in (states_of S.frames tracks.new.items) < 2 ^ 62 }
-    ensures sound_and_countable { AreSoundAndCountable (states_of S.frames tracks.old.items)
-        → AreSoundAndCountable (states_of S.frames tracks.new.items) }
-    ensures window_start { pos 0 ≤ℤ settings.new.window_start }
-    ensures ends { (limit : ℤ) → AreEndedBy limit (states_of S.frames tracks.old.items)
-        → AreEndedBy (limit_after result limit settings.new.group_end)
-        (states_of S.frames tracks.new.items) }
-    ensures spare { IsRoomTakenAt S.spare index tracks.old.items tracks.new.items }
-    ensures room { (n : ℕ) → HasSpareRoom S.spare (n + 1) tracks.old.items
-        → HasSpareRoom S.spare n tracks.new.items }
-    ensures gaps { gaps_of S.gap tracks.new.items ≡ gaps_of S.gap tracks.old.items }
-    ensures len { length tracks.new.items ≡ length tracks.old.items }
-    ensures places { tracks.new.spare ≡ tracks.old.spare }
+    requires { IsPlaceable S.frames S.spare index frame settings.old tracks.old.items }
+    ensures { IsPlaced S.frames S.spare S.gap index frame settings.old tracks.old result
+        settings.new tracks.new }
 {
     let used = tracks.used();
     place_with_used(tracks, settings, index, frame, used)

@@ -138,7 +138,7 @@ pub fn timing_of(settings: &Settings, marks: &Marks, frame: &CodedFrame) -> Opti
 /// its timestamps are not generated, and it follows no discontinuity. `None` for other frames, and
 /// where a time is out of range.
 pub fn plain_times(settings: &Settings, marks: &Marks, frame: &CodedFrame) -> Option<Times>
-    ensures timing { IfSome result (λ w. Some (timing_by settings.now w)
+    ensures timing { IfSome result (λ timing. Some (timing_by settings.now timing)
         ≡ timing_of settings.now marks.now frame.now) }
     ensures no_generate { OnSome result (settings.now.generate ≡ false) }
 {

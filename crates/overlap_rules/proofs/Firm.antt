@@ -6,9 +6,8 @@ use Rattle.std.specs.Option.{IfSome}
 use Rattle.std.specs.List.{AllByRecursion}
 use Rattle.mse_base.specs.declared.track.Kind.{Kind}
 use Rattle.mse_base.specs.declared.track.Kind.TheVariants.{Video, Audio, Other}
-use Rattle.mse_base.specs.Time.{IsTick}
 use Rattle.track_store.specs.declared.store.Stored.{Stored}
-use Rattle.track_store.specs.Frames.{frames_with_dur, with_dur, has_serial, is_in_frame, overlapped, bytes_of, IsAscending, IsTimed}
+use Rattle.track_store.specs.Frames.{frames_with_dur, with_dur, has_serial, is_in_frame, overlapped, bytes_of, IsAscending}
 use Rattle.track_store.specs.State.{TrackState}
 use Rattle.track_store.specs.Sound.{IsSound, IsSuccessor, IsChained, last_serial, IsNotNegative, AreTogether}
 use Rattle.track_store.proofs.Clearing.{each-cleared, ascending-cleared, used-cleared, pick-each, ascending-shortened, used-shortened}
@@ -24,7 +23,6 @@ pub record HasRemovalInvariants (received : ℕ) (first : Option ℕ) (fs : List
   pub ascending : IsAscending fs
   pub below : AllByRecursion (λ f. f.serial < received) fs
   pub not_negative : AllByRecursion IsNotNegative fs
-  pub timed : AllByRecursion IsTimed fs
   pub group_sync : IfSome first (λ n. AllByRecursion (λ f. f.serial ≡ n → f.frame.sync ≡ true) fs)
 
 -- ---- the overlapped frame is one of the list
@@ -60,15 +58,14 @@ overlapped-each P p fs h = fold-each P None (filter (is_in_frame p) fs) tt (filt
 pub record IsHit (p : ℤ) (fs : List Stored) (g : Stored) : Type 0 where
   pub over : is_in_frame p g ≡ true
   pub not_negative : IsNotNegative g
-  pub timed : IsTimed g
   pub own : IsOwn fs g
 
-hit_of : (p : ℤ) (fs : List Stored) (o : Option Stored) → IfSome o (λ g. is_in_frame p g ≡ true) → IfSome o IsNotNegative → IfSome o IsTimed → IfSome o (IsOwn fs) → IfSome o (IsHit p fs)
-hit_of p fs None a b c d = tt
-hit_of p fs (Some g) a b c d = record { over = a; not_negative = b; timed = c; own = d }
+hit_of : (p : ℤ) (fs : List Stored) (o : Option Stored) → IfSome o (λ g. is_in_frame p g ≡ true) → IfSome o IsNotNegative → IfSome o (IsOwn fs) → IfSome o (IsHit p fs)
+hit_of p fs None a b d = tt
+hit_of p fs (Some g) a b d = record { over = a; not_negative = b; own = d }
 
 hit_is : (decode : Option ℤ) (p : ℤ) (received : ℕ) (first : Option ℕ) (fs : List Stored) → HasRemovalInvariants received first fs → IfSome (overlapped_after decode p fs) (IsHit p fs)
-hit_is None p received first fs h = hit_of p fs (overlapped p fs) (overlapped-covers p fs) (overlapped-each IsNotNegative p fs h.not_negative) (overlapped-each IsTimed p fs h.timed) (overlapped-each (IsOwn fs) p fs (each-own fs h.ascending))
+hit_is None p received first fs h = hit_of p fs (overlapped p fs) (overlapped-covers p fs) (overlapped-each IsNotNegative p fs h.not_negative) (overlapped-each (IsOwn fs) p fs (each-own fs h.ascending))
 hit_is (Some last) p received first fs h = tt
 
 -- ---- what holds of each frame holds of those that are left
@@ -128,12 +125,6 @@ cut_end p s = omega (arith, ints)
 within : (p s d : ℤ) → (int_le s p && int_lt p (s +ℤ d)) ≡ true → (s ≤ℤ p) × (p ≤ℤ (s +ℤ d))
 within p s d h = (grind (arith, ints), grind (arith, ints))
 
-timed_part : (p s d : ℤ) → s ≤ℤ p → p ≤ℤ (s +ℤ d) → pos 0 ≤ℤ s → IsTick (s +ℤ d) → (pos 0 ≤ℤ (p -ℤ s)) × IsTick (s +ℤ (p -ℤ s))
-timed_part p s d a b low t = let high = t.1 in (omega (arith, ints), (omega (arith, ints), omega (arith, ints)))
-
-timed_cut : (p : ℤ) (fs : List Stored) (g : Stored) → IsHit p fs g → IsTimed (cut_at p g)
-timed_cut p fs g h = let both = within p g.frame.pts g.frame.dur h.over in timed_part p g.frame.pts g.frame.dur both.0 both.1 h.not_negative.0 h.timed.1
-
 -- ---- the list stays firm
 
 if_some : (o : Option ℕ) (P Q : ℕ → Type 0) → ((n : ℕ) → P n → Q n) → IfSome o P → IfSome o Q
@@ -164,12 +155,11 @@ firm-left received first kind p hit removed fs is h =
       ascending = ascending-left kind p hit removed fs h.ascending;
       below = left-stable (λ f. f.serial < received) kind p hit removed fs (λ dur f k. k) h.below;
       not_negative = left-each IsNotNegative kind p hit removed fs own (if_hit hit (IsHit p fs) (λ g. IsNotNegative (cut_at p g)) (forward_cut p fs) is) h.not_negative;
-      timed = left-each IsTimed kind p hit removed fs own (if_hit hit (IsHit p fs) (λ g. IsTimed (cut_at p g)) (timed_cut p fs) is) h.timed;
       group_sync = if_some first (λ n. AllByRecursion (λ f. f.serial ≡ n → f.frame.sync ≡ true) fs) (λ n. AllByRecursion (λ f. f.serial ≡ n → f.frame.sync ≡ true) (frames_left_by_overlap kind p hit removed fs)) (λ n k. left-stable (λ f. f.serial ≡ n → f.frame.sync ≡ true) kind p hit removed fs (λ dur f j. j) k) h.group_sync;
     }
 
 firm_of : (t : TrackState) → IsSound t → HasRemovalInvariants t.marks.received t.marks.group_first t.frames
-firm_of t h = record { chained = h.chained; ascending = h.ascending; below = h.below; not_negative = h.not_negative; timed = h.timed; group_sync = h.group_sync }
+firm_of t h = record { chained = h.chained; ascending = h.ascending; below = h.below; not_negative = h.not_negative; group_sync = h.group_sync }
 
 -- the frames that are left
 pub firm_room : (p e : ℤ) (t : TrackState) → IsSound t → HasRemovalInvariants t.marks.received t.marks.group_first (track_with_room p e t).frames
@@ -218,12 +208,10 @@ pub sound_room : (p e : ℤ) (t : TrackState) → IsSound t → IsSound (track_w
 sound_room p e t h =
     let firm = firm_room p e t h in
     record {
-      count = h.count;
       chained = firm.chained;
       ascending = firm.ascending;
       below = firm.below;
       not_negative = firm.not_negative;
-      timed = firm.timed;
       last_held = λ none. last_room p e t h none;
       together = h.together;
       group_below = h.group_below;

@@ -1,5 +1,5 @@
 pub mod Ends
-pub mod Removing
+pub mod Removals
 pub mod Rooms
 pub mod Loops
 pub mod Fixture

@@ -2,7 +2,8 @@ use Rattle.std.proofs.Common.{◌≡◌, ◌≤ℤ◌, true}
 use Rattle.std.specs.Int.{int_gap}
 use Rattle.std.specs.List.{AllByRecursion}
 use Rattle.track_store.specs.State.{states_of}
-use Rattle.eviction.specs.Steps.{IsAmong, is_below, times_at}
+use Rattle.eviction.specs.Steps.{is_below, times_at}
+use Rattle.eviction.specs.Times.{IsAmong}
 use Rattle.eviction.proofs.latest.latest_from.Given as goal
 
 abbrev pub invariant-loop-high : goal.invariant-loop-high

@@ -8,51 +8,58 @@ use Rattle.frame_rules.specs.Place.{Placement}
 use Rattle.frame_rules.proofs.processing.place_with_used.Goals as goal
 
 pub is_full-requires-clause-small : goal.is_full-requires-clause-small
-is_full-requires-clause-small g c = c.requires.small
-
-pub returns-then-is_full-clause-placement : goal.returns-then-is_full-clause-placement
-returns-then-is_full-clause-placement g c =
-    placed_full g.S.FrameStore.frames c.args.tracks.now.items c.args.settings.now c.args.index c.args.frame c.requires.in_range (rw c.len.ensures at c.if-is_full.ensures)
+is_full-requires-clause-small g c = c.requires.placeable.small
 
 pub place_below_limits-requires-clause-ready : goal.place_below_limits-requires-clause-ready
 place_below_limits-requires-clause-ready g c =
-    ready_sound g.S.FrameStore.frames g.S.FrameStore.spare c.args.tracks.now.items c.args.index (length c.args.frame.payload) c.requires.sound c.requires.room (rw c.len.ensures at c.if-is_full.ensures)
+    ready_sound g.S.FrameStore.frames g.S.FrameStore.spare c.args.tracks.now.items c.args.index (length c.args.frame.payload) c.requires.placeable.sound c.requires.placeable.count c.requires.placeable.room (rw c.len.ensures at c.if-is_full.ensures)
 
-pub returns-clause-placement : goal.returns-clause-placement
-returns-clause-placement g c =
-    placed_counted g.S.FrameStore.frames c.args.tracks.now.items c.args.settings.now c.args.index c.args.frame _ c.requires.in_range (rw c.len.ensures at c.if-is_full.ensures) c.place_below_limits.ensures.placement
+pub returns-then-is_full : goal.returns-then-is_full
+returns-then-is_full g c =
+    let F = g.S.FrameStore.frames in
+    let old = c.args.tracks.now.items in
+    let ts = states_of F old in
+    let spared = takes_nothing g.S.FrameStore.spare c.args.index old in
+    record {
+      placement = placed_full F old c.args.settings.now c.args.index c.args.frame c.requires.placeable.in_range (rw c.len.ensures at c.if-is_full.ensures);
+      sound = still_same ts;
+      small = c.requires.placeable.small;
+      sound_and_countable = λ all. all;
+      window_start = c.requires.placeable.window_start;
+      ends = λ limit all. all;
+      stores = record {
+        spare_there = spared;
+        room = λ n all. room_left g.S.FrameStore.spare c.args.index n old old refl spared all;
+        gaps = refl;
+        len = refl;
+      };
+      places = refl;
+    }
 
-pub returns-then-is_full-clause-sound : goal.returns-then-is_full-clause-sound
-returns-then-is_full-clause-sound g c = still_same (states_of g.S.FrameStore.frames c.args.tracks.now.items)
-
-pub returns-clause-sound : goal.returns-clause-sound
-returns-clause-sound g c =
-    (firm_left _ _ (states_of g.S.FrameStore.frames c.args.tracks.now.items) c.args.settings.now c.args.index c.args.frame refl (returns-clause-placement g c) c.requires.sound c.requires.small c.requires.window_start c.requires.dur_not_negative).sound
-
-pub returns-clause-small : goal.returns-clause-small
-returns-clause-small g c =
-    (firm_left _ _ (states_of g.S.FrameStore.frames c.args.tracks.now.items) c.args.settings.now c.args.index c.args.frame refl (returns-clause-placement g c) c.requires.sound c.requires.small c.requires.window_start c.requires.dur_not_negative).small
-
-pub returns-clause-sound_and_countable : goal.returns-clause-sound_and_countable
-returns-clause-sound_and_countable g c = kept_of (states_of g.S.FrameStore.frames c.args.tracks.now.items) _
-    (firm_left _ _ (states_of g.S.FrameStore.frames c.args.tracks.now.items) c.args.settings.now c.args.index c.args.frame refl (returns-clause-placement g c) c.requires.sound c.requires.small c.requires.window_start c.requires.dur_not_negative)
-
-pub returns-clause-window_start : goal.returns-clause-window_start
-returns-clause-window_start g c =
-    let ts = states_of g.S.FrameStore.frames c.args.tracks.now.items in
-    let same = ap (λ (o : Placement). o.settings.window_start) (returns-clause-placement g c) ∙ placed_window ts c.args.settings.now c.args.index c.args.frame in
-    subst (λ (z : ℤ). pos 0 ≤ℤ z) (sym same) c.requires.window_start
-
-pub returns-clause-ends : goal.returns-clause-ends
-returns-clause-ends g c = λ limit h.
-    end_left _ _ _ (states_of g.S.FrameStore.frames c.args.tracks.now.items) c.args.settings.now c.args.index c.args.frame limit (returns-clause-placement g c) c.requires.sound h
-
-pub returns-clause-room : goal.returns-clause-room
-returns-clause-room g c = λ n all.
-    room_left g.S.FrameStore.spare c.args.index n c.args.tracks.now.items c.place_below_limits.new.tracks.items (same_length g.S.FrameStore.gap c.args.tracks.now.items c.place_below_limits.new.tracks.items c.place_below_limits.ensures.gaps) c.place_below_limits.ensures.spare all
-
-pub returns-then-is_full-clause-spare : goal.returns-then-is_full-clause-spare
-returns-then-is_full-clause-spare g c = takes_nothing g.S.FrameStore.spare c.args.index c.args.tracks.now.items
-
-pub returns-clause-len : goal.returns-clause-len
-returns-clause-len g c = same_length g.S.FrameStore.gap c.args.tracks.now.items c.place_below_limits.new.tracks.items c.place_below_limits.ensures.gaps
+pub returns : goal.returns
+returns g c =
+    let F = g.S.FrameStore.frames in
+    let old = c.args.tracks.now.items in
+    let new = c.place_below_limits.new.tracks.items in
+    let ts = states_of F old in
+    let s = c.args.settings.now in
+    let r = c.requires.placeable in
+    let left = c.place_below_limits.ensures in
+    let placed = placed_counted F old s c.args.index c.args.frame _ r.in_range (rw c.len.ensures at c.if-is_full.ensures) left.placement in
+    let firm = firm_left _ _ ts s c.args.index c.args.frame refl placed r.count r.small r.window_start r.dur_not_negative in
+    let same = same_length g.S.FrameStore.gap old new left.gaps in
+    record {
+      placement = placed;
+      sound = firm.sound;
+      small = firm.small;
+      sound_and_countable = kept_of ts _ firm;
+      window_start = subst (λ (z : ℤ). pos 0 ≤ℤ z) (sym (ap (λ (o : Placement). o.settings.window_start) placed ∙ placed_window ts s c.args.index c.args.frame)) r.window_start;
+      ends = λ limit all. end_left _ _ _ ts s c.args.index c.args.frame limit placed r.sound all;
+      stores = record {
+        spare_there = left.spare;
+        room = λ n all. room_left g.S.FrameStore.spare c.args.index n old new same left.spare all;
+        gaps = left.gaps;
+        len = same;
+      };
+      places = left.places;
+    }

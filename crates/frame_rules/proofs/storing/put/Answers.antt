@@ -5,7 +5,7 @@ use Rattle.track_store.specs.Sound.{HasPredecessor}
 use Rattle.track_store.specs.State.{TrackState, state_of}
 use Rattle.overlap_rules.proofs.Firm.{firm_room, used_room}
 use Rattle.frame_rules.specs.Plain.{timing_by}
-use Rattle.frame_rules.proofs.Putting.{may_follow, stored_is}
+use Rattle.frame_rules.proofs.PutFrames.{may_follow, stored_is}
 use Rattle.frame_rules.proofs.storing.put.Goals as goal
 
 pub add-requires-clause-later : goal.add-requires-clause-later

@@ -1,7 +1,7 @@
 use Rattle.std.proofs.Common.{false}
 use Rattle.track_store.specs.Frames.{is_between}
 use Rattle.range_removal.specs.Removal.{remove_end}
-use Rattle.range_removal.proofs.Removing.{unnamed-cleared}
+use Rattle.range_removal.proofs.Removals.{unnamed-cleared}
 use Rattle.range_removal.proofs.laws.nothing_left.Goals as goal
 
 pub returns : goal.returns

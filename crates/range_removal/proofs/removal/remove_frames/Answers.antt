@@ -4,7 +4,7 @@ use Rattle.track_store.specs.Kept.{AreSoundAndCountable, AreEndedBy, AreStillSou
 use Rattle.track_store.specs.State.{TrackState, states_of}
 use Rattle.range_removal.specs.Removal.{track_after_removal}
 use Rattle.range_removal.proofs.Loops.{written_more, all_written}
-use Rattle.range_removal.proofs.Removing.{kept_removed, ends_removed, still_removed}
+use Rattle.range_removal.proofs.Removals.{kept_removed, ends_removed, still_removed}
 use Rattle.range_removal.proofs.Rooms.{keeps_both, room_kept, same_length}
 use Rattle.range_removal.proofs.removal.remove_frames.Goals as goal
 

@@ -5,7 +5,7 @@ use Rattle.track_store.specs.Frames.{frames_without, is_between}
 use Rattle.track_store.specs.State.{state_of}
 use Rattle.range_removal.specs.Removal.{remove_end}
 use Rattle.range_removal.proofs.Ends.{option_same, option_other, not_true, not_false}
-use Rattle.range_removal.proofs.Removing.{without_same, without_other}
+use Rattle.range_removal.proofs.Removals.{without_same, without_other}
 use Rattle.range_removal.proofs.removal.remove_from.Goals as goal
 
 pub returns-then-ne-clause-state : goal.returns-then-ne-clause-state

@@ -8,8 +8,9 @@ use Rattle.std.specs.List.{AllByRecursion}
 use Rattle.mse_base.specs.declared.frame.CodedFrame.{CodedFrame}
 use Rattle.track_store.specs.declared.store.Stored.{Stored}
 use Rattle.track_store.specs.declared.tracks.Marks.{Marks}
-use Rattle.track_store.specs.Frames.{bytes_of, IsTimed}
+use Rattle.track_store.specs.Frames.{bytes_of}
 use Rattle.track_store.specs.State.{TrackState}
+use Rattle.track_store.specs.Kept.{IsCountable}
 use Rattle.track_store.specs.Sound.{IsSound, HasPredecessor, IsSuccessor, last_serial, IsNotNegative, AreTogether}
 use Rattle.track_store.proofs.Clearing.{ascending_push, each-push}
 use Rattle.track_store.proofs.Soundness.{predecessor_last, chained_push, last_push}
@@ -59,12 +60,10 @@ together_true decode duration end first need h = absurd h
 
 sound_dropped : (t : TrackState) → IsSound t → t.marks.received < 2 ^ 62 → IsSound (track_after_drop t)
 sound_dropped t h less = record {
-  count = omega arith;
   chained = h.chained;
   ascending = h.ascending;
   below = below_more_serials t.marks.received t.frames h.below;
   not_negative = h.not_negative;
-  timed = h.timed;
   last_held = λ e. cc;
   together = together_true _ t.marks.last_duration _ _ t.marks.need_sync h.together;
   group_below = first_below t.marks.group_first t.marks.received h.group_below;
@@ -100,12 +99,10 @@ sound_stored w f t h less begins lasts timing needs =
     let x = stored_frame w n f in
     let firm = firm_room w.pts w.end t h in
     record {
-      count = omega arith;
       chained = chained_push None left x firm.chained (sync_or f.sync (IsSuccessor (last_serial None left) n) (λ e. last_room w.pts w.end t h (needs e)));
       ascending = ascending_push left x firm.ascending firm.below;
       below = each-push (λ g. g.serial < n + 1) left x (below_more_serials n left firm.below) (omega arith);
       not_negative = each-push IsNotNegative left x firm.not_negative (begins, lasts);
-      timed = each-push IsTimed left x firm.timed (lasts, timing.1);
       last_held = λ _. subst (λ o. IsSuccessor o (n + 1)) (sym (last_push None left x)) refl;
       together = tt;
       group_below = first_low t.marks.group_first n h.group_below;
@@ -156,3 +153,11 @@ stored_is w f t u fs x m kept room frames stored marks =
     ∙ ap (λ (n : Marks). record u { frames = u.frames ++ stored_frame w u.marks.received f ∷ []; marks = n }) marks
     ∙ ap (λ (v : TrackState). record v { frames = v.frames ++ stored_frame w v.marks.received f ∷ []; marks = marks_after w f.dur v.marks }) room
     ∙ ap (λ (why : Option Why). track_by_reason why w f t) (sym kept)
+
+-- what the track received can still be counted
+counted_by : (o : Option Why) (w : Timing) (f : CodedFrame) (t : TrackState) → t.marks.received < 2 ^ 62 → IsCountable (track_by_reason o w f t)
+counted_by (Some why) w f t less = omega arith
+counted_by None w f t less = omega arith
+
+pub counted_put : (w : Timing) (f : CodedFrame) (t : TrackState) → t.marks.received < 2 ^ 62 → IsCountable (track_after_frame w f t)
+counted_put w f t less = counted_by (drop_reason w f.sync t.marks.need_sync) w f t less

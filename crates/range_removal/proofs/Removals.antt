@@ -7,7 +7,7 @@ use Rattle.mse_base.specs.declared.ticks.Moment.{Moment}
 use Rattle.track_store.specs.declared.store.Stored.{Stored}
 use Rattle.track_store.specs.declared.tracks.Marks.{Marks}
 use Rattle.track_store.specs.Frames.{IsAscending, frames_without, frames_left, bytes_of}
-use Rattle.track_store.specs.Kept.{bytes_in, AreSoundAndCountable, AreEndedBy, AreStillSound}
+use Rattle.track_store.specs.Kept.{bytes_in, IsCountable, AreSoundAndCountable, AreEndedBy, AreStillSound}
 use Rattle.track_store.specs.Sound.{IsSound, IsSuccessor, AreTogether, last_serial}
 use Rattle.track_store.specs.State.{TrackState, unset_marks}
 use Rattle.track_store.proofs.Clearing.{is_frame_gone, each-cleared, ascending-cleared, used-cleared}
@@ -60,17 +60,18 @@ sound_without named t h =
     let m = t.marks in
     let fs = t.frames in
     record {
-      count = received_of (λ n. n ≤ 2 ^ 62) b m h.count;
       chained = chained-cleared named false None None fs (λ _. refl) h.chained;
       ascending = ascending-cleared false named fs h.ascending;
       below = received_of (λ n. AllByRecursion (λ f. f.serial < n) (frames_without named fs)) b m (each-cleared (λ f. f.serial < m.received) false named fs h.below);
       not_negative = each-cleared _ false named fs h.not_negative;
-      timed = each-cleared _ false named fs h.timed;
       last_held = follows_of named fs b m refl h.last_held;
       together = together_of b m h.together;
       group_below = first_of (λ n k. n < k) b m h.group_below;
       group_sync = first_of (λ n k. AllByRecursion (λ f. f.serial ≡ n → f.frame.sync ≡ true) (frames_without named fs)) b m (if_some m.group_first (λ n. AllByRecursion (λ f. f.serial ≡ n → f.frame.sync ≡ true) fs) _ (λ n k. each-cleared (λ f. f.serial ≡ n → f.frame.sync ≡ true) false named fs k) h.group_sync);
     }
+
+pub counted_without : (named : Stored → Bool) (t : TrackState) → IsCountable t → IsCountable (track_without named t)
+counted_without named t h = received_of (λ n. n ≤ 2 ^ 62) (is_last_removed named t.frames) t.marks h
 
 -- ---- all tracks
 
@@ -90,6 +91,7 @@ bytes_removed start end duration (t ∷ ts) =
 pub kept_removed : (start : ℤ) (end duration : Moment) (ts : List TrackState) → AreSoundAndCountable ts → AreSoundAndCountable (tracks_after_removal start end duration ts)
 kept_removed start end duration ts h = record {
   sound = each-map IsSound IsSound (track_after_removal start end duration) ts (λ t s. sound_without (is_between start (remove_end end duration t.frames)) t s) h.sound;
+  counted = each-map IsCountable IsCountable (track_after_removal start end duration) ts (λ t s. counted_without (is_between start (remove_end end duration t.frames)) t s) h.counted;
   small = let less = bytes_removed start end duration ts in let most = h.small in omega arith;
 }
 
