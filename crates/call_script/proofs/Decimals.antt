@@ -11,7 +11,7 @@ use Rattle.std.proofs.lemmas.Str.Parse.{tells_all_ascii_digits}
 use Rattle.event_text.specs.Words.{is_printable}
 use Rattle.call_script.specs.Numbers.{is_number, number_of, number_if_below, number_below, index_of, size_of}
 use Rattle.call_script.specs.Times.{amount_of}
-use Rattle.call_script.proofs.Parsing.{own, below-yes}
+use Rattle.call_script.proofs.ParsedNumbers.{own, below-yes}
 use Rattle.call_script.proofs.Spaces.{IsAbsentFrom, IsPrintableText}
 
 -- the first digit of a number that is not 0 is not 0

@@ -1,9 +1,9 @@
 pub mod Marks
-pub mod Parsing
+pub mod ParsedNumbers
 pub mod Signs
-pub mod Growing
+pub mod Members
 pub mod KeyLists
-pub mod Answering
+pub mod TomlAnswers
 pub mod Spaces
 pub mod Decimals
 pub mod PrintedTimes

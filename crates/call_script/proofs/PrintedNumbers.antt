@@ -7,7 +7,7 @@ use Rattle.std.proofs.lemmas.Bool.Decides.{Decides-ltb}
 use Rattle.std.proofs.lemmas.Fmt.{decimal-digits_value}
 use Rattle.std.proofs.lemmas.Slice.Eq.{bytes_eq-Decides}
 use Rattle.call_script.specs.Numbers.{is_number, number_of}
-use Rattle.call_script.proofs.Parsing.{own, number_digits}
+use Rattle.call_script.proofs.ParsedNumbers.{own, number_digits}
 
 -- no zero leads
 no_zero_by : (text : List ℕ) (zero_text first digits : Bool) → bytes_eq text (codes "0") ≡ zero_text → nat_lt 48 (slice_index text 0) ≡ first

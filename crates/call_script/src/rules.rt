@@ -86,7 +86,7 @@ fn read_lines(alloc: Global, lines: &[Value]) -> Result<Option<Calls>, OutOfMemo
     Ok(Some(Calls::from_vec(calls)))
 }
 
-#[tactic(auto, using(crate::proofs::Growing::count_view), unfolding(crate::specs::Rules::calls_of))]
+#[tactic(auto, using(crate::proofs::Members::count_view), unfolding(crate::specs::Rules::calls_of))]
 fn read_calls(alloc: Global, value: Option<&Value>) -> Result<Option<Calls>, OutOfMemory>
     ensures { IfOk result (λ calls. calls
         ≡ calls_of (option_map (λ v. view v.now) value.entry)) }

@@ -1,10 +1,10 @@
-ghost use Rattle.std.specs.Prelude.{◌≡◌, IfOk, string_bytes};
+ghost use Rattle.std.specs.Prelude.{◌≡◌, ◌++◌, OnOk, string_bytes};
 ghost use Rattle.event_text.specs.Answers.{ready_text, element_text, state_text, refused_text, answer_text};
 
-use crate::times::{moment_word, range_word, ranges_word};
+use crate::times::{push_moment, push_range, push_ranges};
 use crate::words::bool_word;
 use mse_calls::{Answer, Name, Ready, StateView};
-use std::alloc::{AllocError, Global};
+use std::alloc::AllocError;
 
 fn ready_word(ready: Ready) -> &'static str
     ensures { result.now ≡ ready_text ready }
@@ -16,26 +16,31 @@ fn ready_word(ready: Ready) -> &'static str
     }
 }
 
-/// The part of the state that is the element's alone.
-fn element_words(alloc: Global, state: &StateView) -> Result<String, AllocError>
-    ensures { IfOk result (λ s. string_bytes s ≡ element_text state.now) }
+/// Appends the part of the state that is the element's alone.
+fn push_element(text: &mut String, state: &StateView) -> Result<(), AllocError>
+    ensures { OnOk result (string_bytes text.new
+        ≡ string_bytes text.old ++ element_text state.now) }
 {
     let position = state.position.get();
     let paused = bool_word(state.paused);
     let seeking = bool_word(state.seeking);
     let error = state.error;
-    format!(in alloc; "position {position} paused {paused} seeking {seeking} error {error}")
+    write!(
+        text,
+        "position {position} paused {paused} seeking {seeking} error {error}"
+    )
 }
 
-/// The state of the source and of the element.
-pub fn state_words(alloc: Global, state: &StateView) -> Result<String, AllocError>
-    ensures { IfOk result (λ s. string_bytes s ≡ state_text state.now) }
+/// Appends the state of the source and of the element.
+pub fn push_state(text: &mut String, state: &StateView) -> Result<(), AllocError>
+    ensures { OnOk result (string_bytes text.new ≡ string_bytes text.old ++ state_text state.now) }
 {
     let source = ready_word(state.source);
-    let duration = moment_word(alloc, state.duration)?;
     let level = state.level.number();
-    let element = element_words(alloc, state)?;
-    format!(in alloc; "source {source} duration {duration} level {level} {element}")
+    write!(text, "source {source} duration ")?;
+    push_moment(text, state.duration)?;
+    write!(text, " level {level} ")?;
+    push_element(text, state)
 }
 
 fn name_word(name: Name) -> &'static str
@@ -52,24 +57,25 @@ fn name_word(name: Name) -> &'static str
     }
 }
 
-/// What a call answers.
-pub fn answer_words(alloc: Global, answer: &Answer) -> Result<String, AllocError>
-    ensures { IfOk result (λ s. string_bytes s ≡ answer_text answer.now) }
+/// Appends what a call answers.
+pub fn push_answer(text: &mut String, answer: &Answer) -> Result<(), AllocError>
+    ensures { OnOk result (string_bytes text.new
+        ≡ string_bytes text.old ++ answer_text answer.now) }
 {
     match answer {
-        Answer::Done => format!(in alloc; "done"),
+        Answer::Done => text.push_str("done"),
         Answer::Ranges(ranges) => {
-            let ranges = ranges_word(alloc, ranges)?;
-            format!(in alloc; "ranges {ranges}")
+            text.push_str("ranges ")?;
+            push_ranges(text, ranges)
         }
         Answer::Range(range) => {
-            let range = range_word(alloc, range)?;
-            format!(in alloc; "range {range}")
+            text.push_str("range ")?;
+            push_range(text, range)
         }
-        Answer::State(state) => state_words(alloc, state),
+        Answer::State(state) => push_state(text, state),
         Answer::Refused(name) => {
-            let name = name_word(*name);
-            format!(in alloc; "refused {name}")
+            text.push_str("refused ")?;
+            text.push_str(name_word(*name))
         }
     }
 }

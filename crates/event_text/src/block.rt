@@ -5,10 +5,10 @@ ghost use Rattle.event_text.specs.Words.{line};
 ghost use Rattle.event_text.specs.Times.{moment_text, ranges_text};
 ghost use Rattle.event_text.specs.Block.{phase_text, track_kind_text, track_line, buffer_line, buffer_lines, state_lines, fault_lines, closing_text};
 
-use crate::answers::state_words;
-use crate::faults::fault_words;
-use crate::times::{moment_word, ranges_word};
-use crate::words::code_signs;
+use crate::answers::push_state;
+use crate::faults::push_fault_line;
+use crate::times::{push_moment, push_ranges};
+use crate::words::push_code;
 use mse_base::{Kind, Moment, OutOfMemory, Phase, Text};
 use mse_calls::{BufferView, FaultView, StateView, TrackView, View};
 use std::alloc::{AllocError, Global};
@@ -33,118 +33,123 @@ fn track_kind_word(kind: Kind) -> &'static str
     }
 }
 
-/// The end of a track's line: how many frames it has, and its ranges.
-fn frames_words(alloc: Global, track: &TrackView) -> Result<String, AllocError>
-    ensures { IfOk result (λ s. string_bytes s
-        ≡ line (codes "frames" ∷ decimal track.now.frames ∷ codes "ranges"
-        ∷ ranges_text track.now.ranges ∷ [])) }
+/// Appends a space and the end of a track's line: how many frames it has, and its ranges.
+fn push_frames(text: &mut String, track: &TrackView) -> Result<(), AllocError>
+    ensures { OnOk result (string_bytes text.new ≡ string_bytes text.old
+        ++ (32 ∷ line (codes "frames" ∷ decimal track.now.frames ∷ codes "ranges"
+        ∷ ranges_text track.now.ranges ∷ []))) }
 {
     let frames = track.frames;
-    let ranges = ranges_word(alloc, &track.ranges)?;
-    format!(in alloc; "frames {frames} ranges {ranges}\n")
+    write!(text, " frames {frames} ranges ")?;
+    push_ranges(text, &track.ranges)?;
+    text.push_str("\n")
 }
 
-/// The line of a track of the buffer with that number.
-fn track_words(alloc: Global, buffer: u32, track: &TrackView) -> Result<String, AllocError>
-    ensures { IfOk result (λ s. string_bytes s ≡ track_line buffer track.now) }
+/// Appends the line of a track of the buffer with that number.
+fn push_track(text: &mut String, buffer: u32, track: &TrackView) -> Result<(), AllocError>
+    ensures { OnOk result (string_bytes text.new
+        ≡ string_bytes text.old ++ track_line buffer track.now) }
 {
     let id = track.id;
     let kind = track_kind_word(track.kind);
-    let codec = code_signs(alloc, &track.codec)?;
-    let frames = frames_words(alloc, track)?;
-    format!(in alloc; "track {buffer} {id} {kind} {codec} {frames}")
+    write!(text, "track {buffer} {id} {kind} ")?;
+    push_code(text, &track.codec)?;
+    push_frames(text, track)
 }
 
-/// The line of a buffer.
-fn buffer_words(alloc: Global, buffer: &BufferView) -> Result<String, AllocError>
-    ensures { IfOk result (λ s. string_bytes s ≡ buffer_line buffer.now) }
+/// Appends the line of a buffer.
+fn push_buffer_line(text: &mut String, buffer: &BufferView) -> Result<(), AllocError>
+    ensures { OnOk result (string_bytes text.new
+        ≡ string_bytes text.old ++ buffer_line buffer.now) }
 {
     let number = buffer.number;
     let phase = phase_word(buffer.phase);
     let held = buffer.held;
     let used = buffer.used;
-    let ranges = ranges_word(alloc, &buffer.ranges)?;
-    format!(in alloc; "buffer {number} phase {phase} held {held} used {used} buffered {ranges}\n")
+    write!(
+        text,
+        "buffer {number} phase {phase} held {held} used {used} buffered "
+    )?;
+    push_ranges(text, &buffer.ranges)?;
+    text.push_str("\n")
 }
 
 /// Appends the lines of the tracks of the buffer with that number.
-fn push_tracks(
-    alloc: Global,
-    text: &mut String,
-    buffer: u32,
-    tracks: &[TrackView],
-) -> Result<(), AllocError>
+fn push_tracks(text: &mut String, buffer: u32, tracks: &[TrackView]) -> Result<(), AllocError>
     ensures { OnOk result (string_bytes text.new
         ≡ string_bytes text.old ++ flat_map (track_line buffer) tracks.now) }
 {
     for track in tracks {
-        let words = track_words(alloc, buffer, track)?;
-        text.push_str(words.as_str())?;
+        push_track(text, buffer, track)?;
     }
     Ok(())
 }
 
 /// Appends the line of a buffer, and below it those of its tracks.
-fn push_buffer(alloc: Global, text: &mut String, buffer: &BufferView) -> Result<(), AllocError>
+fn push_buffer(text: &mut String, buffer: &BufferView) -> Result<(), AllocError>
     ensures { OnOk result (string_bytes text.new
         ≡ string_bytes text.old ++ buffer_lines buffer.now) }
 {
-    let words = buffer_words(alloc, buffer)?;
-    text.push_str(words.as_str())?;
-    push_tracks(alloc, text, buffer.number, buffer.tracks.as_slice())
+    push_buffer_line(text, buffer)?;
+    push_tracks(text, buffer.number, buffer.tracks.as_slice())
 }
 
 /// Appends the lines of the buffers.
-fn push_buffers(alloc: Global, text: &mut String, buffers: &[BufferView]) -> Result<(), AllocError>
+fn push_buffers(text: &mut String, buffers: &[BufferView]) -> Result<(), AllocError>
     ensures { OnOk result (string_bytes text.new
         ≡ string_bytes text.old ++ flat_map buffer_lines buffers.now) }
 {
     for buffer in buffers {
-        push_buffer(alloc, text, buffer)?;
+        push_buffer(text, buffer)?;
     }
     Ok(())
 }
 
-/// The line of the state, where it is asked for.
-fn state_line(alloc: Global, state: &StateView, whole: bool) -> Result<String, AllocError>
-    ensures { IfOk result (λ s. string_bytes s ≡ state_lines state.now whole) }
+/// Appends the line of the state, where it is asked for.
+fn push_state_line(text: &mut String, state: &StateView, whole: bool) -> Result<(), AllocError>
+    ensures { OnOk result (string_bytes text.new
+        ≡ string_bytes text.old ++ state_lines state.now whole) }
 {
     if !whole {
-        return Ok(String::new(alloc));
+        return Ok(());
     }
-    let state = state_words(alloc, state)?;
-    format!(in alloc; "state {state}\n")
+    text.push_str("state ")?;
+    push_state(text, state)?;
+    text.push_str("\n")
 }
 
-/// The line of the duration.
-fn duration_line(alloc: Global, duration: Moment) -> Result<String, AllocError>
-    ensures { IfOk result (λ s. string_bytes s
-        ≡ line (codes "duration" ∷ moment_text duration ∷ [])) }
+/// Appends the line of the duration.
+fn push_duration(text: &mut String, duration: Moment) -> Result<(), AllocError>
+    ensures { OnOk result (string_bytes text.new ≡ string_bytes text.old
+        ++ line (codes "duration" ∷ moment_text duration ∷ [])) }
 {
-    let duration = moment_word(alloc, duration)?;
-    format!(in alloc; "duration {duration}\n")
+    text.push_str("duration ")?;
+    push_moment(text, duration)?;
+    text.push_str("\n")
 }
 
 /// Appends the line of the first fault, if there was one.
-fn push_fault(alloc: Global, text: &mut String, fault: &Option<FaultView>) -> Result<(), AllocError>
+fn push_fault(text: &mut String, fault: &Option<FaultView>) -> Result<(), AllocError>
     ensures { OnOk result (string_bytes text.new ≡ string_bytes text.old ++ fault_lines fault.now) }
 {
-    if let Some(fault) = fault {
-        let words = fault_words(alloc, fault)?;
-        text.push_str(words.as_str())?;
+    match fault {
+        Some(fault) => push_fault_line(text, fault),
+        None => Ok(()),
     }
-    Ok(())
 }
+
+/// The bytes for which the closing lines have room when they are begun.
+const BLOCK_ROOM: usize = 1024;
 
 /// The lines that close a run: the state of the source and the element where `whole` asks for it,
 /// the duration, each buffer with its tracks, and the first fault.
 pub fn closing(alloc: Global, view: &View, whole: bool) -> Result<Text, OutOfMemory>
     ensures { IfOk result (λ text. text ≡ closing_text view.now whole) }
 {
-    let mut text = state_line(alloc, &view.state, whole)?;
-    let duration = duration_line(alloc, view.state.duration)?;
-    text.push_str(duration.as_str())?;
-    push_buffers(alloc, &mut text, view.buffers.as_slice())?;
-    push_fault(alloc, &mut text, &view.fault)?;
+    let mut text = String::with_capacity(alloc, BLOCK_ROOM)?;
+    push_state_line(&mut text, &view.state, whole)?;
+    push_duration(&mut text, view.state.duration)?;
+    push_buffers(&mut text, view.buffers.as_slice())?;
+    push_fault(&mut text, &view.fault)?;
     Ok(Text::from_string(alloc, text))
 }

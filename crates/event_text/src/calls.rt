@@ -1,14 +1,14 @@
-ghost use Rattle.std.specs.Prelude.{◌≡◌, [], ◌∷◌, IfOk, string_bytes};
+ghost use Rattle.std.specs.Prelude.{◌≡◌, [], ◌∷◌, ◌++◌, OnOk, string_bytes};
 ghost use Rattle.std.specs.Fmt.{decimal};
 ghost use Rattle.event_text.specs.Words.{words};
 ghost use Rattle.event_text.specs.Times.{moment_text};
 ghost use Rattle.event_text.specs.Calls.{mode_text, end_text, type_text, append_text, call_text};
 
-use crate::times::moment_word;
-use crate::words::signs_of;
+use crate::times::push_moment;
+use crate::words::push_signs;
 use mse_base::Moment;
 use mse_calls::{Call, EndKind, Mode, Piece};
-use std::alloc::{AllocError, Global};
+use std::alloc::AllocError;
 
 fn mode_word(mode: Mode) -> &'static str
     ensures { result.now ≡ mode_text mode }
@@ -29,117 +29,126 @@ fn end_words(kind: EndKind) -> &'static str
     }
 }
 
-/// A word and a buffer's number.
-fn word_number(alloc: Global, word: &str, k: u32) -> Result<String, AllocError>
-    ensures { IfOk result (λ s. string_bytes s ≡ words (word.now ∷ decimal k ∷ [])) }
+/// Appends a word and a buffer's number.
+fn push_number(text: &mut String, word: &str, k: u32) -> Result<(), AllocError>
+    ensures { OnOk result (string_bytes text.new
+        ≡ string_bytes text.old ++ words (word.now ∷ decimal k ∷ [])) }
 {
-    format!(in alloc; "{word} {k}")
+    write!(text, "{word} {k}")
 }
 
-/// A word and a time.
-fn word_time(alloc: Global, word: &str, t: Moment) -> Result<String, AllocError>
-    ensures { IfOk result (λ s. string_bytes s ≡ words (word.now ∷ moment_text t ∷ [])) }
+/// Appends a word and a time.
+fn push_time(text: &mut String, word: &str, t: Moment) -> Result<(), AllocError>
+    ensures { OnOk result (string_bytes text.new
+        ≡ string_bytes text.old ++ words (word.now ∷ moment_text t ∷ [])) }
 {
-    let t = moment_word(alloc, t)?;
-    format!(in alloc; "{word} {t}")
+    write!(text, "{word} ")?;
+    push_moment(text, t)
 }
 
-/// A word and two times.
-fn word_times(alloc: Global, word: &str, a: Moment, b: Moment) -> Result<String, AllocError>
-    ensures { IfOk result (λ s. string_bytes s
-        ≡ words (word.now ∷ moment_text a ∷ moment_text b ∷ [])) }
+/// Appends a word and two times.
+fn push_times(text: &mut String, word: &str, a: Moment, b: Moment) -> Result<(), AllocError>
+    ensures { OnOk result (string_bytes text.new
+        ≡ string_bytes text.old ++ words (word.now ∷ moment_text a ∷ moment_text b ∷ [])) }
 {
-    let a = moment_word(alloc, a)?;
-    let b = moment_word(alloc, b)?;
-    format!(in alloc; "{word} {a} {b}")
+    write!(text, "{word} ")?;
+    push_moment(text, a)?;
+    text.push_str(" ")?;
+    push_moment(text, b)
 }
 
-/// A word, a buffer's number and a time.
-fn word_number_time(alloc: Global, word: &str, k: u32, t: Moment) -> Result<String, AllocError>
-    ensures { IfOk result (λ s. string_bytes s
-        ≡ words (word.now ∷ decimal k ∷ moment_text t ∷ [])) }
+/// Appends a word, a buffer's number and a time.
+fn push_number_time(text: &mut String, word: &str, k: u32, t: Moment) -> Result<(), AllocError>
+    ensures { OnOk result (string_bytes text.new
+        ≡ string_bytes text.old ++ words (word.now ∷ decimal k ∷ moment_text t ∷ [])) }
 {
-    let t = moment_word(alloc, t)?;
-    format!(in alloc; "{word} {k} {t}")
+    write!(text, "{word} {k} ")?;
+    push_moment(text, t)
 }
 
-fn mode_words(alloc: Global, k: u32, mode: Mode) -> Result<String, AllocError>
-    ensures { IfOk result (λ s. string_bytes s ≡ call_text (Call.SetMode k mode)) }
+fn push_mode(text: &mut String, k: u32, mode: Mode) -> Result<(), AllocError>
+    ensures { OnOk result (string_bytes text.new
+        ≡ string_bytes text.old ++ call_text (Call.SetMode k mode)) }
 {
     let mode = mode_word(mode);
-    format!(in alloc; "mode {k} {mode}")
+    write!(text, "mode {k} {mode}")
 }
 
-fn append_words(alloc: Global, k: u32, piece: Piece) -> Result<String, AllocError>
-    ensures { IfOk result (λ s. string_bytes s ≡ append_text k piece.blob piece.part) }
+fn push_append(text: &mut String, k: u32, piece: Piece) -> Result<(), AllocError>
+    ensures { OnOk result (string_bytes text.new
+        ≡ string_bytes text.old ++ append_text k piece.blob piece.part) }
 {
     let blob = piece.blob;
     match piece.part {
-        None => format!(in alloc; "append {k} {blob}"),
-        Some((first, length)) => format!(in alloc; "append {k} {blob} {first} {length}"),
+        None => write!(text, "append {k} {blob}"),
+        Some((first, length)) => write!(text, "append {k} {blob} {first} {length}"),
     }
 }
 
-fn remove_words(alloc: Global, k: u32, a: Moment, b: Moment) -> Result<String, AllocError>
-    ensures { IfOk result (λ s. string_bytes s ≡ call_text (Call.Remove k a b)) }
+fn push_remove(text: &mut String, k: u32, a: Moment, b: Moment) -> Result<(), AllocError>
+    ensures { OnOk result (string_bytes text.new
+        ≡ string_bytes text.old ++ call_text (Call.Remove k a b)) }
 {
-    let a = moment_word(alloc, a)?;
-    let b = moment_word(alloc, b)?;
-    format!(in alloc; "remove {k} {a} {b}")
+    write!(text, "remove {k} ")?;
+    push_moment(text, a)?;
+    text.push_str(" ")?;
+    push_moment(text, b)
 }
 
-/// A type after a space; nothing for the empty type.
-fn type_word(alloc: Global, kind: &str) -> Result<String, AllocError>
-    ensures { IfOk result (λ s. string_bytes s ≡ type_text kind.now) }
+/// Appends a type after a space; nothing for the empty type.
+fn push_type(text: &mut String, kind: &str) -> Result<(), AllocError>
+    ensures { OnOk result (string_bytes text.new ≡ string_bytes text.old ++ type_text kind.now) }
 {
     if kind.is_empty() {
-        return Ok(String::new(alloc));
+        return Ok(());
     }
-    let kind = signs_of(alloc, kind)?;
-    format!(in alloc; " {kind}")
+    text.push_str(" ")?;
+    push_signs(text, kind)
 }
 
-fn add_words(alloc: Global, kind: &str) -> Result<String, AllocError>
-    ensures { IfOk result (λ s. string_bytes s ≡ call_text (Call.AddSourceBuffer kind.now)) }
+fn push_add(text: &mut String, kind: &str) -> Result<(), AllocError>
+    ensures { OnOk result (string_bytes text.new
+        ≡ string_bytes text.old ++ call_text (Call.AddSourceBuffer kind.now)) }
 {
-    let kind = type_word(alloc, kind)?;
-    format!(in alloc; "add{kind}")
+    text.push_str("add")?;
+    push_type(text, kind)
 }
 
-fn change_type_words(alloc: Global, k: u32, kind: &str) -> Result<String, AllocError>
-    ensures { IfOk result (λ s. string_bytes s ≡ call_text (Call.ChangeType k kind.now)) }
+fn push_change_type(text: &mut String, k: u32, kind: &str) -> Result<(), AllocError>
+    ensures { OnOk result (string_bytes text.new
+        ≡ string_bytes text.old ++ call_text (Call.ChangeType k kind.now)) }
 {
-    let kind = type_word(alloc, kind)?;
-    format!(in alloc; "changetype {k}{kind}")
+    write!(text, "changetype {k}")?;
+    push_type(text, kind)
 }
 
-/// The line of a call, as a script writes it, with its times in ticks.
-pub fn call_words(alloc: Global, call: &Call) -> Result<String, AllocError>
-    ensures { IfOk result (λ s. string_bytes s ≡ call_text call.now) }
+/// Appends a call, as a script writes it, with its times in ticks.
+pub fn push_call(text: &mut String, call: &Call) -> Result<(), AllocError>
+    ensures { OnOk result (string_bytes text.new ≡ string_bytes text.old ++ call_text call.now) }
 {
     match call {
-        Call::Attach => format!(in alloc; "attach"),
-        Call::AddSourceBuffer(kind) => add_words(alloc, kind.as_str()),
-        Call::RemoveSourceBuffer(k) => word_number(alloc, "removebuffer", *k),
-        Call::SetDuration(d) => word_time(alloc, "duration", *d),
-        Call::EndOfStream(kind) => String::from_str(alloc, end_words(*kind)),
-        Call::SetLiveSeekableRange(a, b) => word_times(alloc, "live", *a, *b),
-        Call::ClearLiveSeekableRange => format!(in alloc; "clearlive"),
-        Call::SetMode(k, mode) => mode_words(alloc, *k, *mode),
-        Call::SetTimestampOffset(k, t) => word_number_time(alloc, "offset", *k, *t),
-        Call::SetAppendWindowStart(k, t) => word_number_time(alloc, "windowstart", *k, *t),
-        Call::SetAppendWindowEnd(k, t) => word_number_time(alloc, "windowend", *k, *t),
-        Call::AppendBuffer(k, piece) => append_words(alloc, *k, *piece),
-        Call::Abort(k) => word_number(alloc, "abort", *k),
-        Call::Remove(k, a, b) => remove_words(alloc, *k, *a, *b),
-        Call::ChangeType(k, kind) => change_type_words(alloc, *k, kind.as_str()),
-        Call::Buffered(k) => word_number(alloc, "buffered", *k),
-        Call::SourceState => format!(in alloc; "state"),
-        Call::Seek(t) => word_time(alloc, "seek", *t),
-        Call::Play => format!(in alloc; "play"),
-        Call::Pause => format!(in alloc; "pause"),
-        Call::Advance(t) => word_time(alloc, "advance", *t),
-        Call::ElementBuffered => format!(in alloc; "elementbuffered"),
-        Call::Seekable => format!(in alloc; "seekable"),
+        Call::Attach => text.push_str("attach"),
+        Call::AddSourceBuffer(kind) => push_add(text, kind.as_str()),
+        Call::RemoveSourceBuffer(k) => push_number(text, "removebuffer", *k),
+        Call::SetDuration(d) => push_time(text, "duration", *d),
+        Call::EndOfStream(kind) => text.push_str(end_words(*kind)),
+        Call::SetLiveSeekableRange(a, b) => push_times(text, "live", *a, *b),
+        Call::ClearLiveSeekableRange => text.push_str("clearlive"),
+        Call::SetMode(k, mode) => push_mode(text, *k, *mode),
+        Call::SetTimestampOffset(k, t) => push_number_time(text, "offset", *k, *t),
+        Call::SetAppendWindowStart(k, t) => push_number_time(text, "windowstart", *k, *t),
+        Call::SetAppendWindowEnd(k, t) => push_number_time(text, "windowend", *k, *t),
+        Call::AppendBuffer(k, piece) => push_append(text, *k, *piece),
+        Call::Abort(k) => push_number(text, "abort", *k),
+        Call::Remove(k, a, b) => push_remove(text, *k, *a, *b),
+        Call::ChangeType(k, kind) => push_change_type(text, *k, kind.as_str()),
+        Call::Buffered(k) => push_number(text, "buffered", *k),
+        Call::SourceState => text.push_str("state"),
+        Call::Seek(t) => push_time(text, "seek", *t),
+        Call::Play => text.push_str("play"),
+        Call::Pause => text.push_str("pause"),
+        Call::Advance(t) => push_time(text, "advance", *t),
+        Call::ElementBuffered => text.push_str("elementbuffered"),
+        Call::Seekable => text.push_str("seekable"),
     }
 }

@@ -1,18 +1,18 @@
-ghost use Rattle.std.specs.Prelude.{◌≡◌, IfOk, string_bytes};
+ghost use Rattle.std.specs.Prelude.{◌≡◌, ◌++◌, OnOk, string_bytes};
 ghost use Rattle.event_text.specs.Events.{target_text, kind_text, event_line};
 
 use mse_calls::{Event, EventKind, Target};
-use std::alloc::{AllocError, Global};
+use std::alloc::AllocError;
 
-fn target_words(alloc: Global, target: Target) -> Result<String, AllocError>
-    ensures { IfOk result (λ s. string_bytes s ≡ target_text target) }
+fn push_target(text: &mut String, target: Target) -> Result<(), AllocError>
+    ensures { OnOk result (string_bytes text.new ≡ string_bytes text.old ++ target_text target) }
 {
     match target {
-        Target::Source => format!(in alloc; "source"),
-        Target::SourceBuffers => format!(in alloc; "sourcebuffers"),
-        Target::ActiveSourceBuffers => format!(in alloc; "activesourcebuffers"),
-        Target::Buffer(k) => format!(in alloc; "buffer {k}"),
-        Target::Element => format!(in alloc; "element"),
+        Target::Source => text.push_str("source"),
+        Target::SourceBuffers => text.push_str("sourcebuffers"),
+        Target::ActiveSourceBuffers => text.push_str("activesourcebuffers"),
+        Target::Buffer(k) => write!(text, "buffer {k}"),
+        Target::Element => text.push_str("element"),
     }
 }
 
@@ -47,11 +47,12 @@ pub fn kind_name(kind: EventKind) -> &'static str
     }
 }
 
-/// The line of an event.
-pub fn event_words(alloc: Global, event: &Event) -> Result<String, AllocError>
-    ensures { IfOk result (λ s. string_bytes s ≡ event_line event.now) }
+/// Appends the line of an event.
+pub fn push_event(text: &mut String, event: &Event) -> Result<(), AllocError>
+    ensures { OnOk result (string_bytes text.new ≡ string_bytes text.old ++ event_line event.now) }
 {
-    let target = target_words(alloc, event.target)?;
     let kind = kind_name(event.kind);
-    format!(in alloc; "event {target} {kind}\n")
+    text.push_str("event ")?;
+    push_target(text, event.target)?;
+    write!(text, " {kind}\n")
 }

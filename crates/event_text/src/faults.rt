@@ -1,8 +1,8 @@
-ghost use Rattle.std.specs.Prelude.{◌≡◌, IfOk, string_bytes};
+ghost use Rattle.std.specs.Prelude.{◌≡◌, ◌++◌, IfOk, OnOk, string_bytes};
 ghost use Rattle.event_text.specs.Words.{name_at};
 ghost use Rattle.event_text.specs.Faults.{stream_faults, init_faults, moof_faults, init_fault_text, inner_text, fault_line};
 
-use crate::words::code_signs;
+use crate::words::push_code;
 use mse_base::{OutOfMemory, Text};
 use mse_calls::FaultView;
 use std::alloc::{AllocError, Global};
@@ -68,16 +68,17 @@ fn moof_fault_word(inner: u8) -> &'static str
     }
 }
 
-/// What is wrong in an initialization segment, with the box that is missing.
-fn init_fault_words(alloc: Global, inner: u8, missing: &[u8; 4]) -> Result<String, AllocError>
-    ensures { IfOk result (λ s. string_bytes s ≡ init_fault_text inner missing.now) }
+/// Appends what is wrong in an initialization segment, with the box that is missing.
+fn push_init_fault(text: &mut String, inner: u8, missing: &[u8; 4]) -> Result<(), AllocError>
+    ensures { OnOk result (string_bytes text.new
+        ≡ string_bytes text.old ++ init_fault_text inner missing.now) }
 {
-    let name = init_fault_word(inner);
+    text.push_str(init_fault_word(inner))?;
     if inner != 2 {
-        return String::from_str(alloc, name);
+        return Ok(());
     }
-    let missing = code_signs(alloc, missing)?;
-    format!(in alloc; "{name} {missing}")
+    text.push_str(" ")?;
+    push_code(text, missing)
 }
 
 /// What is wrong in an initialization segment, by its number from 1 on; for a box that is
@@ -85,25 +86,26 @@ fn init_fault_words(alloc: Global, inner: u8, missing: &[u8; 4]) -> Result<Strin
 pub fn init_fault(alloc: Global, inner: u8, missing: &[u8; 4]) -> Result<Text, OutOfMemory>
     ensures { IfOk result (λ t. t ≡ init_fault_text inner missing.now) }
 {
-    let words = init_fault_words(alloc, inner, missing)?;
+    let mut words = String::new(alloc);
+    push_init_fault(&mut words, inner, missing)?;
     Ok(Text::from_string(alloc, words))
 }
 
-/// After a space, what is wrong in the initialization segment or the movie fragment; nothing for
+/// Appends a space and what is wrong in the initialization segment or the movie fragment; nothing for
 /// another fault.
-fn inner_words(alloc: Global, fault: &FaultView) -> Result<String, AllocError>
-    ensures { IfOk result (λ s. string_bytes s ≡ inner_text fault.now) }
+fn push_inner(text: &mut String, fault: &FaultView) -> Result<(), AllocError>
+    ensures { OnOk result (string_bytes text.new ≡ string_bytes text.old ++ inner_text fault.now) }
 {
     match fault.number {
         9 => {
-            let inner = init_fault_words(alloc, fault.inner, &fault.missing)?;
-            format!(in alloc; " {inner}")
+            text.push_str(" ")?;
+            push_init_fault(text, fault.inner, &fault.missing)
         }
         10 => {
-            let inner = moof_fault_word(fault.inner);
-            format!(in alloc; " {inner}")
+            text.push_str(" ")?;
+            text.push_str(moof_fault_word(fault.inner))
         }
-        _ => Ok(String::new(alloc)),
+        _ => Ok(()),
     }
 }
 
@@ -111,18 +113,20 @@ fn inner_words(alloc: Global, fault: &FaultView) -> Result<String, AllocError>
 pub fn fault_line(alloc: Global, fault: &FaultView) -> Result<Text, OutOfMemory>
     ensures { IfOk result (λ text. text ≡ fault_line fault.now) }
 {
-    let line = fault_words(alloc, fault)?;
+    let mut line = String::new(alloc);
+    push_fault_line(&mut line, fault)?;
     Ok(Text::from_string(alloc, line))
 }
 
-/// The line of a fault.
-pub fn fault_words(alloc: Global, fault: &FaultView) -> Result<String, AllocError>
-    ensures { IfOk result (λ s. string_bytes s ≡ fault_line fault.now) }
+/// Appends the line of a fault.
+pub fn push_fault_line(text: &mut String, fault: &FaultView) -> Result<(), AllocError>
+    ensures { OnOk result (string_bytes text.new ≡ string_bytes text.old ++ fault_line fault.now) }
 {
     let number = fault.number;
     let name = stream_fault_word(number);
-    let inner = inner_words(alloc, fault)?;
     let buffer = fault.buffer;
     let offset = fault.offset;
-    format!(in alloc; "fault {number} {name}{inner} buffer {buffer} at {offset}\n")
+    write!(text, "fault {number} {name}")?;
+    push_inner(text, fault)?;
+    write!(text, " buffer {buffer} at {offset}\n")
 }

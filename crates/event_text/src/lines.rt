@@ -1,27 +1,37 @@
-ghost use Rattle.std.specs.Prelude.{◌≡◌, IfOk, string_bytes};
+ghost use Rattle.std.specs.Prelude.{◌≡◌, [], ◌∷◌, ◌++◌, codes, IfOk, OnOk, string_bytes};
+ghost use Rattle.event_text.specs.Calls.{call_text};
+ghost use Rattle.event_text.specs.Answers.{answer_text};
 ghost use Rattle.event_text.specs.Lines.{line_text};
 
-use crate::answers::answer_words;
-use crate::calls::call_words;
-use crate::events::event_words;
+use crate::answers::push_answer;
+use crate::calls::push_call;
+use crate::events::push_event;
 use mse_base::{OutOfMemory, Text};
 use mse_calls::{Answer, Call, Entry, Event};
 use std::alloc::{AllocError, Global};
+
+/// The bytes for which a line has room when it is begun: more than most lines have.
+const LINE_ROOM: usize = 192;
+
+/// Appends a call, what it answers, and a line feed.
+fn push_answered(text: &mut String, call: &Call, answer: &Answer) -> Result<(), AllocError>
+    ensures { OnOk result (string_bytes text.new ≡ string_bytes text.old
+        ++ (call_text call.now ++ (codes ": " ++ (answer_text answer.now ++ 10 ∷ [])))) }
+{
+    push_call(text, call)?;
+    text.push_str(": ")?;
+    push_answer(text, answer)?;
+    text.push_str("\n")
+}
 
 /// The line of a script's call, with its line feed.
 pub fn script_line(alloc: Global, call: &Call, answer: &Answer) -> Result<Text, OutOfMemory>
     ensures { IfOk result (λ text. text ≡ line_text (Entry.Script call.now answer.now)) }
 {
-    let line = script_words(alloc, call, answer)?;
+    let mut line = String::with_capacity(alloc, LINE_ROOM)?;
+    line.push_str("call ")?;
+    push_answered(&mut line, call, answer)?;
     Ok(Text::from_string(alloc, line))
-}
-
-fn script_words(alloc: Global, call: &Call, answer: &Answer) -> Result<String, AllocError>
-    ensures { IfOk result (λ s. string_bytes s ≡ line_text (Entry.Script call.now answer.now)) }
-{
-    let call = call_words(alloc, call)?;
-    let answer = answer_words(alloc, answer)?;
-    format!(in alloc; "call {call}: {answer}\n")
 }
 
 /// The line of a call of the listener of that number, with its line feed.
@@ -34,29 +44,18 @@ pub fn listener_line(
     ensures { IfOk result (λ text. text
         ≡ line_text (Entry.Listener number call.now answer.now)) }
 {
-    let line = listener_words(alloc, number, call, answer)?;
+    let mut line = String::with_capacity(alloc, LINE_ROOM)?;
+    write!(line, "listener {number} ")?;
+    push_answered(&mut line, call, answer)?;
     Ok(Text::from_string(alloc, line))
-}
-
-fn listener_words(
-    alloc: Global,
-    number: u32,
-    call: &Call,
-    answer: &Answer,
-) -> Result<String, AllocError>
-    ensures { IfOk result (λ s. string_bytes s
-        ≡ line_text (Entry.Listener number call.now answer.now)) }
-{
-    let call = call_words(alloc, call)?;
-    let answer = answer_words(alloc, answer)?;
-    format!(in alloc; "listener {number} {call}: {answer}\n")
 }
 
 /// The line of an event that was fired, with its line feed.
 pub fn event_line(alloc: Global, event: &Event) -> Result<Text, OutOfMemory>
     ensures { IfOk result (λ text. text ≡ line_text (Entry.Fired event.now)) }
 {
-    let line = event_words(alloc, event)?;
+    let mut line = String::with_capacity(alloc, LINE_ROOM)?;
+    push_event(&mut line, event)?;
     Ok(Text::from_string(alloc, line))
 }
 

@@ -1,4 +1,4 @@
-ghost use Rattle.std.specs.Prelude.{◌≡◌, ◌<◌, IfOk, map, string_bytes};
+ghost use Rattle.std.specs.Prelude.{◌≡◌, ◌<◌, ◌++◌, IfOk, OnOk, map, string_bytes};
 ghost use Rattle.event_text.specs.Words.{sign_of, printable_text, bool_text};
 
 use mse_base::{OutOfMemory, Text};
@@ -12,26 +12,25 @@ fn sign_of(c: char) -> char
     if ' ' <= c && c <= '~' { c } else { '?' }
 }
 
-/// A text with one sign for each character.
-pub fn signs_of(alloc: Global, text: &str) -> Result<String, AllocError>
-    ensures { IfOk result (λ s. string_bytes s ≡ printable_text text.now) }
+/// Appends a text with one sign for each character.
+pub fn push_signs(text: &mut String, shown: &str) -> Result<(), AllocError>
+    ensures { OnOk result (string_bytes text.new
+        ≡ string_bytes text.old ++ printable_text shown.now) }
 {
-    let mut signs = String::new(alloc);
-    for c in text.chars() {
-        signs.push(sign_of(c))?;
+    for c in shown.chars() {
+        text.push(sign_of(c))?;
     }
-    Ok(signs)
+    Ok(())
 }
 
-/// The four bytes of a type of a box or a coding, with one sign for each byte.
-pub fn code_signs(alloc: Global, code: &[u8; 4]) -> Result<String, AllocError>
-    ensures { IfOk result (λ s. string_bytes s ≡ map sign_of code.now) }
+/// Appends the four bytes of a type of a box or a coding, with one sign for each byte.
+pub fn push_code(text: &mut String, code: &[u8; 4]) -> Result<(), AllocError>
+    ensures { OnOk result (string_bytes text.new ≡ string_bytes text.old ++ map sign_of code.now) }
 {
-    let mut signs = String::new(alloc);
     for byte in code {
-        signs.push(sign_of(char::from(*byte)))?;
+        text.push(sign_of(char::from(*byte)))?;
     }
-    Ok(signs)
+    Ok(())
 }
 
 /// A text as it is printed: a character from 0x20 to 0x7E as itself, and every other one as a
@@ -39,7 +38,8 @@ pub fn code_signs(alloc: Global, code: &[u8; 4]) -> Result<String, AllocError>
 pub fn printable_text(alloc: Global, text: &str) -> Result<Text, OutOfMemory>
     ensures { IfOk result (λ t. t ≡ printable_text text.now) }
 {
-    let signs = signs_of(alloc, text)?;
+    let mut signs = String::new(alloc);
+    push_signs(&mut signs, text)?;
     Ok(Text::from_string(alloc, signs))
 }
 

@@ -1,3 +1,3 @@
-pub mod Giving
+pub mod FeederAnswers
 pub mod Progress
-pub mod Feeding
+pub mod PutLines

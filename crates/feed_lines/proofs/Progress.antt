@@ -1,6 +1,6 @@
 -- Each group ends later than the time that it was given for, at the end of a frame.
 use Rattle.std.proofs.Common.{◌≡◌, ◌∙◌, ◌<◌, ◌≤◌, ℕ, zero, suc, ℤ, ◌+ℤ◌, ◌<ℤ◌, ◌≤ℤ◌, Bool, true, false, cond, ◌&&◌, List, [], ◌∷◌, ◌++◌, length, slice_get, Option, Some, None, refl, sym, ap, subst, arith}
-use Rattle.std.specs.Prelude.{int_le, int_lt, unwrap_or}
+use Rattle.std.specs.Prelude.{int_le, int_lt, unwrap_or, IsSome}
 use Rattle.std.specs.Option.{IfSome}
 use Rattle.std.specs.List.{AllByRecursion}
 use Rattle.std.proofs.lemmas.Int.{ints}
@@ -14,11 +14,11 @@ use Rattle.track_store.proofs.Overlapping.{overlapped-covers}
 use Rattle.decoder_feed.specs.Feed.{IsGroupUpTo, IsLastOf, feed_of}
 use Rattle.decoder_feed.specs.Runs.{AreGiven}
 use Rattle.decoder_feed.specs.Steps.{feeder_after_seek}
-use Rattle.decoder_feed.proofs.Giving.{feed_given}
+use Rattle.decoder_feed.proofs.FeederAnswers.{feed_given}
 use Rattle.decoder_feed.proofs.Groups.{HasPlaceIn, feed_group, shown_placed}
-use Rattle.feed_lines.specs.Groups.{end_of, frames_for}
+use Rattle.feed_lines.specs.Groups.{end_of, feeding, IsEnd}
 use Rattle.feed_lines.specs.Lines.{feed_text, groups_text, none_line, text_by}
-use Rattle.feed_lines.proofs.Giving.{AreEnough, front_of_all}
+use Rattle.feed_lines.proofs.FeederAnswers.{AreEnough, ends_in_three, frames_same, front_of_all, idle_frames}
 
 -- when a frame ends
 abbrev pub end : Stored → ℤ
@@ -49,17 +49,17 @@ enough_received t None given = tt
 enough_received t (Some n) given = omega arith
 
 -- the feed is given first
-pub feed_first : (at : ℤ) (t : TrackState) (feed : List Stored) → IsSound t → feed_of at t.frames ≡ Some feed → (rest : List Stored) × (frames_for at t ≡ feed ++ rest)
+pub feed_first : (at : ℤ) (t : TrackState) (feed : List Stored) → IsSound t → feed_of at t.frames ≡ Some feed → (rest : List Stored) × ((feeding at t).frames ≡ feed ++ rest)
 feed_first at t feed sound is =
     let all = subst (λ o. AreGiven (feeder_after_seek at t.frames) t o) is (feed_given at t sound) in
     let more = front_of_all (length feed) t (feeder_after_seek at t.frames) t.marks.received (enough_received t (feeder_after_seek at t.frames).next (feeder_after_seek at t.frames).given) in
-    (more.0, more.1 ∙ ap (λ xs. xs ++ more.0) all)
+    (more.0, frames_same t.marks.received t (feeder_after_seek at t.frames) ∙ more.1 ∙ ap (λ xs. xs ++ more.0) all)
 
 -- what is given begins with a list that ends with the frame that is shown
 pub record IsShown (at : ℤ) (t : TrackState) (wanted : Stored) : Type 0 where
   pub feed : List Stored
   pub rest : List Stored
-  pub given : frames_for at t ≡ feed ++ rest
+  pub given : (feeding at t).frames ≡ feed ++ rest
   pub last : IsLastOf wanted feed
 
 pub shown : (at : ℤ) (t : TrackState) (wanted : Stored) → IsSound t → overlapped at t.frames ≡ Some wanted → IsShown at t wanted
@@ -73,10 +73,26 @@ none_before x [] rest h e = h
 none_before x (f ∷ fs) rest h e = cc
 
 -- something is given
-pub something_given : (at : ℤ) (t : TrackState) (wanted : Stored) → IsSound t → overlapped at t.frames ≡ Some wanted → frames_for at t ≡ [] → ⊥
+pub something_given : (at : ℤ) (t : TrackState) (wanted : Stored) → IsSound t → overlapped at t.frames ≡ Some wanted → (feeding at t).frames ≡ [] → ⊥
 something_given at t wanted sound is none =
     let h = shown at t wanted sound is in
     none_before wanted h.feed h.rest h.last (sym h.given ∙ none)
+
+-- ---- why no more is given
+
+a_frame : (o : Option Stored) → IsSome o → (wanted : Stored) × (o ≡ Some wanted)
+a_frame None h = cc
+a_frame (Some wanted) h = (wanted, refl)
+
+some_serial : (o : Option ℕ) → (o ≡ None → ⊥) → IsSome o
+some_serial None h = absurd (h refl)
+some_serial (Some n) h = refl
+
+pub end_is : (at : ℤ) (t : TrackState) → IsSound t → IsSome (overlapped at t.frames) → IsEnd (feeding at t).end
+end_is at t sound some =
+    let s = feeder_after_seek at t.frames in
+    let wanted = a_frame (overlapped at t.frames) some in
+    ends_in_three t.marks.received t s (enough_received t s.next s.given) (some_serial s.next (λ e. something_given at t wanted.0 sound wanted.1 (idle_frames t.marks.received t s e)))
 
 -- ---- it ends later
 
@@ -84,11 +100,11 @@ after_by : (at : ℤ) (wanted : Stored) (fs : List Stored) (o : Option ℤ) → 
 after_by at wanted fs None is some h = absurd (some (highest_none fs is))
 after_by at wanted fs (Some e) is some h = h e is
 
-ends_after : (at : ℤ) (t : TrackState) (wanted : Stored) → IsSound t → overlapped at t.frames ≡ Some wanted → end wanted ≤ℤ end_of at (frames_for at t)
+ends_after : (at : ℤ) (t : TrackState) (wanted : Stored) → IsSound t → overlapped at t.frames ≡ Some wanted → end wanted ≤ℤ end_of at (feeding at t).frames
 ends_after at t wanted sound is =
     let h = shown at t wanted sound is in
-    after_by at wanted (frames_for at t) (greatest (ends (frames_for at t))) refl (something_given at t wanted sound is)
-    (λ e top. last_bound (λ f. end f ≤ℤ e) wanted h.feed h.last (first_all (λ f. end f ≤ℤ e) h.feed h.rest (subst (λ xs. AllByRecursion (λ f. end f ≤ℤ e) xs) h.given (highest_bounds (frames_for at t) e top))))
+    after_by at wanted (feeding at t).frames (greatest (ends (feeding at t).frames)) refl (something_given at t wanted sound is)
+    (λ e top. last_bound (λ f. end f ≤ℤ e) wanted h.feed h.last (first_all (λ f. end f ≤ℤ e) h.feed h.rest (subst (λ xs. AllByRecursion (λ f. end f ≤ℤ e) xs) h.given (highest_bounds (feeding at t).frames e top))))
 
 both_hold : (a b : Bool) → (a && b) ≡ true → b ≡ true
 both_hold true b e = e
@@ -138,9 +154,9 @@ fewer_at a b (f ∷ fs) (suc i) x at h p q =
     by true g = omega (arith, g)
     by false g = omega (arith, g)
 
-pub goes_on : (at : ℤ) (t : TrackState) (wanted : Stored) → IsSound t → overlapped at t.frames ≡ Some wanted → later (end_of at (frames_for at t)) t.frames < later at t.frames
+pub goes_on : (at : ℤ) (t : TrackState) (wanted : Stored) → IsSound t → overlapped at t.frames ≡ Some wanted → later (end_of at (feeding at t).frames) t.frames < later at t.frames
 goes_on at t wanted sound is =
-    let next : ℤ = end_of at (frames_for at t) in
+    let next : ℤ = end_of at (feeding at t).frames in
     let after : end wanted ≤ℤ next = ends_after at t wanted sound is in
     let before = before_end at t.frames wanted is in
     let less : at <ℤ end wanted = lt_of at (end wanted) before in
@@ -160,7 +176,7 @@ later-length at (f ∷ fs) = by (int_lt at (end f)) (later-length at fs)
 
 none_by : (n : ℕ) (at : ℤ) (t : TrackState) → overlapped at t.frames ≡ None → groups_text n at t ≡ none_line t.id at
 none_by zero at t is = refl
-none_by (suc n) at t is = ap (λ o. text_by o at t (groups_text n (end_of at (frames_for at t)) t)) is
+none_by (suc n) at t is = ap (λ o. text_by o at t (groups_text n (end_of at (feeding at t).frames) t)) is
 
 pub nothing_shown : (n : ℕ) (at : ℤ) (t : TrackState) → overlapped at t.frames ≡ None → groups_text n at t ≡ none_line t.id at
 nothing_shown n at t is = none_by n at t is
@@ -172,7 +188,7 @@ same_step zero m at t (Some wanted) sound is a b ih = let less = goes_on at t wa
 same_step (suc n) zero at t (Some wanted) sound is a b ih = let less = goes_on at t wanted sound is in absurd (omega (arith, less))
 same_step (suc n) (suc m) at t (Some wanted) sound is a b ih =
     let less = goes_on at t wanted sound is in
-    ap (λ xs. text_by (overlapped at t.frames) at t xs) (ih n (end_of at (frames_for at t)) m refl (omega (arith, less)) (omega (arith, less)))
+    ap (λ xs. text_by (overlapped at t.frames) at t xs) (ih n (end_of at (feeding at t).frames) m refl (omega (arith, less)) (omega (arith, less)))
 
 pub same_text : (n m : ℕ) (at : ℤ) (t : TrackState) → IsSound t → later at t.frames ≤ n → later at t.frames ≤ m → groups_text n at t ≡ groups_text m at t
 same_text zero m at t sound a b = same_step zero m at t (overlapped at t.frames) sound refl a b (λ k at' j e h g. cc)
@@ -182,16 +198,16 @@ same_text (suc n) m at t sound a b =
 
 -- the group of the frame that is shown, and the rest
 one_by : (n : ℕ) (at : ℤ) (t : TrackState) (wanted : Stored) → IsSound t → overlapped at t.frames ≡ Some wanted → later at t.frames ≤ n
-    → groups_text n at t ≡ text_by (Some wanted) at t (groups_text (later (end_of at (frames_for at t)) t.frames) (end_of at (frames_for at t)) t)
+    → groups_text n at t ≡ text_by (Some wanted) at t (groups_text (later (end_of at (feeding at t).frames) t.frames) (end_of at (feeding at t).frames) t)
 one_by zero at t wanted sound is h = let less = goes_on at t wanted sound is in absurd (omega (arith, less))
 one_by (suc n) at t wanted sound is h =
-    let next : ℤ = end_of at (frames_for at t) in
+    let next : ℤ = end_of at (feeding at t).frames in
     let less = goes_on at t wanted sound is in
     ap (λ o. text_by o at t (groups_text n next t)) is
     ∙ ap (λ xs. text_by (Some wanted) at t xs) (same_text n (later next t.frames) next t sound (omega (arith, less)) (omega arith))
 
 pub one_group : (at : ℤ) (t : TrackState) (wanted : Stored) → IsSound t → overlapped at t.frames ≡ Some wanted
-    → groups_text (later at t.frames) at t ≡ text_by (Some wanted) at t (groups_text (later (end_of at (frames_for at t)) t.frames) (end_of at (frames_for at t)) t)
+    → groups_text (later at t.frames) at t ≡ text_by (Some wanted) at t (groups_text (later (end_of at (feeding at t).frames) t.frames) (end_of at (feeding at t).frames) t)
 one_group at t wanted sound is = one_by (later at t.frames) at t wanted sound is (omega arith)
 
 pub all_groups : (from : ℤ) (t : TrackState) → IsSound t → feed_text from t ≡ groups_text (later from t.frames) from t

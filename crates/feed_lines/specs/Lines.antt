@@ -8,7 +8,7 @@ use Rattle.track_store.specs.Frames.{overlapped}
 use Rattle.track_store.specs.State.{TrackState}
 use Rattle.decoder_feed.specs.declared.steps.FeedNext.{FeedNext}
 use Rattle.decoder_feed.specs.declared.steps.FeedNext.TheVariants.{Frame, Idle, Wait, Lost, GroupEnd}
-use Rattle.feed_lines.specs.Groups.{frames_for, answer_behind, end_of}
+use Rattle.feed_lines.specs.Groups.{feeding, end_of}
 
 -- no frame of the track is shown at a time
 abbrev pub none_line : ℕ → ℤ → List ℕ
@@ -49,7 +49,7 @@ end_line answer = line (codes "end" ∷ answer_text answer ∷ [])
 -- the frames that are given to show the frame at a time, and why no more are
 abbrev pub given_text : ℤ → TrackState → List ℕ
 given_text at t =
-    flat_map frame_line (frames_for at t) ++ end_line (answer_behind (frames_for at t) t)
+    flat_map frame_line (feeding at t).frames ++ end_line (feeding at t).end
 
 -- what is given to show a frame at a time, and then what follows; where no frame is shown, that is all
 abbrev pub text_by : Option Stored → ℤ → TrackState → List ℕ → List ℕ
@@ -61,7 +61,7 @@ text_by (Some wanted) at t rest = wanted_line t.id at wanted.serial ++ (given_te
 abbrev pub groups_text : ℕ → ℤ → TrackState → List ℕ
 groups_text zero at t = none_line t.id at
 groups_text (suc more) at t =
-    text_by (overlapped at t.frames) at t (groups_text more (end_of at (frames_for at t)) t)
+    text_by (overlapped at t.frames) at t (groups_text more (end_of at (feeding at t).frames) t)
 
 -- The lines of a track from a time on. Each group ends later than the one before it, at the end of a frame, so that
 -- there are at most as many as frames.

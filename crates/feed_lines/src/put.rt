@@ -7,7 +7,7 @@ ghost use Rattle.track_store.specs.Frames.{overlapped};
 ghost use Rattle.track_store.specs.Sound.{IsSound};
 ghost use Rattle.track_store.specs.State.{state_of};
 ghost use Rattle.decoder_feed.specs.Steps.{feeder_after_seek};
-ghost use Rattle.feed_lines.specs.Groups.{end_of, frames_for};
+ghost use Rattle.feed_lines.specs.Groups.{end_of, feeding};
 ghost use Rattle.feed_lines.specs.Lines.{feed_text, given_text};
 
 use crate::lines::{put_end, put_frame, put_none, put_wanted};
@@ -31,14 +31,17 @@ fn put_given<S: FrameStore, K: Sink>(
     requires shown { IsSome (overlapped at (S.frames track.now.store)) }
     requires sought { feeder.old ≡ feeder_after_seek at (S.frames track.now.store) }
     ensures end { IfOk result (λ end. end
-        ≡ end_of at (frames_for at (state_of S.frames track.now))) }
+        ≡ end_of at (feeding at (state_of S.frames track.now)).frames) }
     ensures ok { OnOk result (IsWritten (given_text at (state_of S.frames track.now))
         (K.written sink.old) (K.written sink.new)) }
     ensures err { OnErr result (IsFrontWritten (given_text at (state_of S.frames track.now))
         (K.written sink.old) (K.written sink.new)) }
     ensures no_fewer_faults { K.faults sink.old ≤ K.faults sink.new }
     ensures cause { IsErrOf result Halt.Write → HasRisen (K.faults sink.old) (K.faults sink.new) }
+    ensures failures_told { ¬ IsErrOf result Halt.Write → K.faults sink.new ≡ K.faults sink.old }
 {
+    // The proof reads off this that each frame ends at a time.
+    track.store.serials_ascend();
     let mut last = None;
     'giving: loop {
         match feeder.next(track) {
@@ -76,6 +79,7 @@ pub fn put_feeds<S: FrameStore, K: Sink>(
         (K.written sink.old) (K.written sink.new)) }
     ensures no_fewer_faults { K.faults sink.old ≤ K.faults sink.new }
     ensures cause { IsErrOf result Halt.Write → HasRisen (K.faults sink.old) (K.faults sink.new) }
+    ensures failures_told { ¬ IsErrOf result Halt.Write → K.faults sink.new ≡ K.faults sink.old }
 {
     let mut feeder = Feeder::new();
     let mut at = from;

@@ -5,7 +5,7 @@ use Rattle.std.specs.List.{list_all}
 use borrow.Author.Tests.{tests}
 use Rattle.std.proofs.lemmas.Iterator.{YieldsList-from_slice}
 use Rattle.std.proofs.lemmas.Iterator.Search.{all_from_yields_List}
-use Rattle.call_script.proofs.Parsing.{number-by-digits}
+use Rattle.call_script.proofs.ParsedNumbers.{number-by-digits}
 use Rattle.call_script.proofs.numbers.is_number.Goals as goal
 
 pub returns-in-len1-up : goal.returns-in-len1-up

@@ -1,6 +1,6 @@
 use Rattle.std.proofs.Common.{◌∙◌, ◌<◌, ◌^◌, sym, ap, subst, Option, ℤ, pos, arith}
 use Rattle.std.specs.Prelude.{IfSome, unsigned_abs, option_map}
-use Rattle.call_script.proofs.Parsing.{parse-amount, amount-long, amount-none}
+use Rattle.call_script.proofs.ParsedNumbers.{parse-amount, amount-long, amount-none}
 use Rattle.call_script.proofs.numbers.read_amount.Goals as goal
 
 pub returns-then-text-gt-MOST_DIGITS-clause-value : goal.returns-then-text-gt-MOST_DIGITS-clause-value

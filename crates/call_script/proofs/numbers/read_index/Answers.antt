@@ -1,5 +1,5 @@
 use Rattle.std.proofs.Common.{◌∙◌, sym}
-use Rattle.call_script.proofs.Parsing.{parse-index, index-none}
+use Rattle.call_script.proofs.ParsedNumbers.{parse-index, index-none}
 use Rattle.call_script.proofs.numbers.read_index.Goals as goal
 
 pub returns-then-not-is_number : goal.returns-then-not-is_number

@@ -1,5 +1,5 @@
 use Rattle.std.proofs.Common.{◌∙◌, sym}
-use Rattle.call_script.proofs.Parsing.{parse-size, parse-size-none, size-none}
+use Rattle.call_script.proofs.ParsedNumbers.{parse-size, parse-size-none, size-none}
 use Rattle.call_script.proofs.numbers.read_size.Goals as goal
 
 pub returns-then-not-is_number : goal.returns-then-not-is_number

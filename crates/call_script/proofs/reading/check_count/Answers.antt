@@ -1,6 +1,6 @@
 use Rattle.std.proofs.Common.{arith}
 use Rattle.call_script.specs.Script.{at_most}
-use Rattle.call_script.proofs.Growing.{count_view}
+use Rattle.call_script.proofs.Members.{count_view}
 use Rattle.call_script.proofs.reading.check_count.Goals as goal
 
 pub returns-then-items-most : goal.returns-then-items-most

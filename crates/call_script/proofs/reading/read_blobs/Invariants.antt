@@ -4,7 +4,7 @@ use Rattle.toml.specs.Data.{as_str}
 use Rattle.toml.specs.View.{items_view}
 use Rattle.call_script.specs.Blobs.{blob_of}
 use Rattle.call_script.specs.Members.{members_from, members_of}
-use Rattle.call_script.proofs.Growing.{with_done}
+use Rattle.call_script.proofs.Members.{with_done}
 use Rattle.call_script.proofs.reading.read_blobs.Given as goal
 
 -- the blobs so far, and then the others

@@ -2,7 +2,7 @@ use Rattle.std.proofs.Common.{◌≡◌, drop}
 use Rattle.toml.specs.View.{items_view}
 use Rattle.call_script.specs.Rules.{rule_of}
 use Rattle.call_script.specs.Members.{members_from, members_of}
-use Rattle.call_script.proofs.Growing.{with_done}
+use Rattle.call_script.proofs.Members.{with_done}
 use Rattle.call_script.proofs.reading.read_rules.Given as goal
 
 -- the rules so far, and then the others

@@ -2,7 +2,7 @@ use Rattle.std.proofs.Common.{rules, ◌≡◌, ◌∙◌, ap}
 use Rattle.std.specs.Prelude.{Err}
 use Rattle.call_script.specs.declared.fault.ScriptFault.{ScriptFault}
 use Rattle.call_script.specs.declared.fault.ScriptFault.TheVariants.{NotToml}
-use Rattle.call_script.proofs.Answering.{answer_ok, answer_fault, read_ok, read_refused}
+use Rattle.call_script.proofs.TomlAnswers.{answer_ok, answer_fault, read_ok, read_refused}
 use Rattle.call_script.proofs.reading.read_script.Goals as goal
 
 pub returns-in-Ok-clause-ok : goal.returns-in-Ok-clause-ok

@@ -2,7 +2,7 @@ use Rattle.std.proofs.Common.{◌≡◌, drop}
 use Rattle.toml.specs.View.{items_view}
 use Rattle.call_script.specs.Rules.{call_of}
 use Rattle.call_script.specs.Members.{members_from, members_of}
-use Rattle.call_script.proofs.Growing.{with_done}
+use Rattle.call_script.proofs.Members.{with_done}
 use Rattle.call_script.proofs.rules.read_lines.Given as goal
 
 -- the calls so far, and then the others

@@ -1,4 +1,4 @@
-use Rattle.decoder_feed.proofs.Giving.{feed_given}
+use Rattle.decoder_feed.proofs.FeederAnswers.{feed_given}
 use Rattle.decoder_feed.proofs.laws.feed_is_given.Goals as goal
 
 pub returns : goal.returns

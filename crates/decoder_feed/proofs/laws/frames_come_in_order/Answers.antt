@@ -1,4 +1,4 @@
-use Rattle.decoder_feed.proofs.Giving.{seek_in_order, run_in_order}
+use Rattle.decoder_feed.proofs.FeederAnswers.{seek_in_order, run_in_order}
 use Rattle.decoder_feed.proofs.laws.frames_come_in_order.Goals as goal
 
 pub returns-clause-seek : goal.returns-clause-seek

@@ -2,7 +2,7 @@ use Rattle.std.proofs.Common.{◌≡◌, sym, ap, inl, inr, arith}
 use Rattle.std.proofs.lemmas.Bool.{cases_lt}
 use Rattle.event_text.specs.Words.{name_at}
 use Rattle.event_text.specs.Faults.{stream_faults}
-use Rattle.event_text.proofs.Joining.{name_at-past}
+use Rattle.event_text.proofs.JoinedWords.{name_at-past}
 use Rattle.event_text.proofs.faults.stream_fault_word.Goals as goal
 
 pub returns-in_default : goal.returns-in_default

@@ -1,14 +1,16 @@
-use Rattle.std.proofs.Common.{◌∙◌, sym, arith}
+use Rattle.std.proofs.Common.{◌∙◌, sym, arith, refl}
 use Rattle.track_store.specs.Frames.{IsTimed}
 use Rattle.track_store.specs.State.{state_of}
 use Rattle.track_store.proofs.Clearing.{each_at}
-use Rattle.feed_lines.proofs.Feeding.{all_answered, end_failed, frame_failed, given_end, given_put, none_yet, one_more}
+use Rattle.feed_lines.proofs.PutLines.{all_answered, end_failed, frame_failed, given_end, given_put, none_yet, one_more}
+use Rattle.script_run.proofs.GoneThrough.{gone_through}
 use Rattle.feed_lines.proofs.put.put_given.Goals as goal
 
 pub giving-init : goal.giving-init
 giving-init g c = record {
   giving = none_yet c.args.at (state_of g.S.FrameStore.frames c.args.track.now) c.args.feeder.now (g.K.Sink.written c.args.sink.now) c.requires.sought;
   no_fewer_faults = omega arith;
+  same_faults = refl;
 }
 
 pub returns-in-Err-clause-err : goal.returns-in-Err-clause-err
@@ -16,12 +18,13 @@ returns-in-Err-clause-err g c =
     frame_failed c.args.at (state_of g.S.FrameStore.frames c.args.track.now) c.giving.feeder c.in-Frame.place c.in-Some.stored.now c.giving.last _ _ _ (sym c.in-Frame.ensures.answer) (sym c.in-Some.ensures) c.giving.invariant.giving c.in-Err.ensures.err
 
 pub end-requires : goal.end-requires
-end-requires g c = (each_at IsTimed (g.S.FrameStore.frames c.args.track.now.store) c.in-Frame.place c.in-Some.stored.now c.requires.sound.timed (sym c.in-Some.ensures)).1
+end-requires g c = (each_at IsTimed (g.S.FrameStore.frames c.args.track.now.store) c.in-Frame.place c.in-Some.stored.now c.serials_ascend.ensures.timed (sym c.in-Some.ensures)).1
 
 pub giving-preserved : goal.giving-preserved
 giving-preserved g c = record {
   giving = rw (c.in-Frame.ensures.state, c.greater_of-last.ensures, c.end.ensures) (one_more c.args.at (state_of g.S.FrameStore.frames c.args.track.now) c.giving.feeder c.in-Frame.place c.in-Some.stored.now c.giving.last _ _ _ (sym c.in-Frame.ensures.answer) (sym c.in-Some.ensures) c.giving.invariant.giving c.in-Ok.ensures.ok);
   no_fewer_faults = omega (arith, c.giving.invariant.no_fewer_faults, c.put_frame.ensures.no_fewer_faults);
+  same_faults = c.in-Ok.ensures.failures_told (gone_through _ _) ∙ c.giving.invariant.same_faults;
 }
 
 pub returns-in-Ok-put_end-clause-end : goal.returns-in-Ok-put_end-clause-end

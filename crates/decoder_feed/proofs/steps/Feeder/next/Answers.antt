@@ -1,5 +1,5 @@
 use Rattle.std.proofs.Common.{◌∙◌, sym}
-use Rattle.decoder_feed.proofs.Giving.{frame_in_order}
+use Rattle.decoder_feed.proofs.FeederAnswers.{frame_in_order}
 use Rattle.decoder_feed.proofs.steps.Feeder.next.Goals as goal
 
 pub returns-in-Frame-clause-in_order : goal.returns-in-Frame-clause-in_order

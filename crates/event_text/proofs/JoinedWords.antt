@@ -1,5 +1,6 @@
 -- Words one after another, ranges one after another, and numbers that have no name.
 use Rattle.std.proofs.Common.{◌≡◌, ℕ, zero, suc, ◌+◌, ◌<◌, ◌≤◌, List, [], ◌∷◌, ◌++◌, map, take, length, get_or, codes, Some, refl, sym, ap, ◌∙◌, arith}
+use Rattle.std.specs.Prelude.{OnOk, Result, Ok, Err}
 use Rattle.std.specs.List.{slice_get}
 use Rattle.std.proofs.lemmas.List.{map_push, take_more}
 use Rattle.std.proofs.lemmas.Option.{slice_get_within, get_or_from_slice_get}
@@ -7,6 +8,12 @@ use mathlib.Core.List.{append_assoc}
 use Rattle.mse_base.specs.declared.span.Span.{Span}
 use Rattle.event_text.specs.Words.{words, name_at}
 use Rattle.event_text.specs.Times.{span_text}
+
+-- a text behind what was appended before
+pub appended_behind : {E : Type 0} (a b c x y : List ℕ) (r : Result (Unit {0}) E) → b ≡ a ++ x → OnOk r (c ≡ b ++ y)
+    → OnOk r (c ≡ a ++ (x ++ y))
+appended_behind a b c x y (Ok u) e f = f ∙ ap (λ t. t ++ y) e ∙ append_assoc a x y
+appended_behind a b c x y (Err error) e f = tt
 
 -- one more word
 pub words-push : (w : List ℕ) (ws : List (List ℕ)) (v : List ℕ)

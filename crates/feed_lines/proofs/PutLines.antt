@@ -9,28 +9,22 @@ use Rattle.std.proofs.lemmas.List.Sums.{fold-append}
 use Rattle.mse_base.specs.Moments.{greater_of, greatest}
 use Rattle.script_run.specs.declared.stop.Halt.{Halt}
 use Rattle.script_run.specs.Writes.{IsWritten, IsFrontWritten}
-use Rattle.script_run.proofs.Writing.{front_first, front_more, wrote_more, wrote_none}
+use Rattle.script_run.proofs.PutLines.{front_first, front_more, wrote_more, wrote_none}
 use Rattle.track_store.specs.declared.store.Stored.{Stored}
 use Rattle.track_store.specs.Frames.{ends, overlapped}
-use Rattle.track_store.specs.Sound.{IsSound, last_serial}
+use Rattle.track_store.specs.Sound.{IsSound}
 use Rattle.track_store.specs.State.{TrackState}
-use Rattle.track_store.proofs.Soundness.{last_push}
 use Rattle.decoder_feed.specs.declared.steps.FeedNext.{FeedNext}
 use Rattle.decoder_feed.specs.declared.steps.FeedNext.TheVariants.{Frame, Idle, Wait, Lost, GroupEnd}
 use Rattle.decoder_feed.specs.Runs.{frame_given, frames_given, with_first}
 use Rattle.decoder_feed.specs.Steps.{FeederState, next_answer, feeder_after, feeder_after_seek}
-use Rattle.decoder_feed.proofs.Giving.{IsStillOrGiven, still_or_given}
-use Rattle.feed_lines.specs.Groups.{answer_behind, end_of, frames_for, feeder_behind}
+use Rattle.decoder_feed.proofs.FeederAnswers.{IsStillOrGiven, still_or_given}
+use Rattle.feed_lines.specs.Groups.{end_of, feeding, feeding_from, feeding_with}
 use Rattle.feed_lines.specs.Lines.{end_line, feed_text, frame_line, given_text, groups_text, none_line, wanted_line}
-use Rattle.feed_lines.proofs.Giving.{AreEnough, all_same, calls_left, enough_left, none_given, received, rest_of}
-use Rattle.feed_lines.proofs.Progress.{all_groups, end, later, nothing_shown, one_group, something_given}
+use Rattle.feed_lines.proofs.FeederAnswers.{AreEnough, all_same, calls_left, ends_same, enough_left, frames_same, none_end, none_given, received, rest_of}
+use Rattle.feed_lines.proofs.Progress.{all_groups, end, later, nothing_shown, one_group}
 
 -- ---- the frames of a group
-
--- what the feeder keeps that has given some of them
-abbrev pub IsBehind : ℤ → TrackState → FeederState → List Stored → Type 0
-IsBehind at t s [] = s ≡ feeder_after_seek at t.frames
-IsBehind at t s (f ∷ fs) = s ≡ feeder_behind (f ∷ fs)
 
 -- the time that a group of frames is looked for at, and the track that it is of
 pub record GroupPlace : Type 0 where
@@ -43,8 +37,8 @@ group_place at t = record { at = at; track = t }
 -- some of the frames are given and their lines are put
 pub record IsGiving (group : GroupPlace) (s : FeederState) (last : Option ℤ) (old new : Option (List ℕ)) : Type 0 where
   pub done : List Stored
-  pub parts : frames_for group.at group.track ≡ done ++ rest_of group.track s
-  pub behind : IsBehind group.at group.track s done
+  pub parts : (feeding group.at group.track).frames ≡ done ++ rest_of group.track s
+  pub end_left : (feeding group.at group.track).end ≡ (feeding_from (calls_left group.track s.next) s group.track).end
   pub last_is : last ≡ greatest (ends done)
   pub wrote : IsWritten (flat_map frame_line done) old new
 
@@ -55,19 +49,15 @@ enough_received t (Some n) given = omega arith
 pub none_yet : (at : ℤ) (t : TrackState) (s : FeederState) (told : Option (List ℕ)) → s ≡ feeder_after_seek at t.frames → IsGiving (group_place at t) s None told told
 none_yet at t s told is = record {
   done = [];
-  parts = ap (λ x. frames_given x (replicate t.marks.received t)) (sym is) ∙ all_same t.marks.received t s (calls_left t s.next) (enough_received t s.next s.given) (enough_left t s.next s.given);
-  behind = is;
+  parts = frames_same t.marks.received t (feeder_after_seek at t.frames) ∙ ap (λ x. frames_given x (replicate t.marks.received t)) (sym is) ∙ all_same t.marks.received t s (calls_left t s.next) (enough_received t s.next s.given) (enough_left t s.next s.given);
+  end_left = ap (λ x. (feeding_from t.marks.received x t).end) (sym is) ∙ ends_same t.marks.received t s (calls_left t s.next) (enough_received t s.next s.given) (enough_left t s.next s.given);
   last_is = refl;
   wrote = wrote_none told;
 }
 
-behind_push : (at : ℤ) (t : TrackState) (s : FeederState) (done : List Stored) (f : Stored) → s ≡ feeder_behind (done ++ f ∷ []) → IsBehind at t s (done ++ f ∷ [])
-behind_push at t s [] f is = is
-behind_push at t s (g ∷ done) f is = is
-
 -- where a frame comes next, it is the first of the rest
 rest_by : (t : TrackState) (s : FeederState) (place : ℕ) (f : Stored) → next_answer s t ≡ Frame place → slice_get t.frames place ≡ Some f → IsStillOrGiven s t.frames (next_answer s t)
-    → (feeder_after (Frame place) s ≡ record { next = Some (f.serial + 1); given = Some f.serial }) × (rest_of t s ≡ f ∷ rest_of t (record { next = Some (f.serial + 1); given = Some f.serial }))
+    → (feeder_after (Frame place) s ≡ record { next = Some (f.serial + 1); given = Some f.serial }) × (rest_of t s ≡ f ∷ rest_of t (record { next = Some (f.serial + 1); given = Some f.serial })) × ((feeding_from (calls_left t s.next) s t).end ≡ (feeding_from (calls_left t (Some (f.serial + 1))) (record { next = Some (f.serial + 1); given = Some f.serial }) t).end)
 rest_by t s place f is at (inl still) =
     let given : frame_given t.frames (next_answer s t) ≡ Some f = ap (frame_given t.frames) is ∙ at in
     let clash = sym still.none ∙ given in cc
@@ -83,6 +73,9 @@ rest_by t s place f is at (inr (g, gives)) =
       ap (λ m. frames_given s (replicate m t)) left
           ∙ ap (λ o. with_first o (frames_given (feeder_after (next_answer s t) s) (replicate (calls_left t s'.next) t))) given
           ∙ ap (λ x. f ∷ frames_given x (replicate (calls_left t s'.next) t)) after,
+      ap (λ m. (feeding_from m s t).end) left
+          ∙ ap (λ o. (feeding_with o (next_answer s t) (feeding_from (calls_left t s'.next) (feeder_after (next_answer s t) s) t)).end) given
+          ∙ ap (λ x. (feeding_from (calls_left t s'.next) x t).end) after,
     )
 
 -- one more frame is given
@@ -92,11 +85,10 @@ pub one_more : (at : ℤ) (t : TrackState) (s : FeederState) (place : ℕ) (f : 
 one_more at t s place f last old mid new is there p w =
     let step = rest_by t s place f is there (still_or_given s t) in
     let s' : FeederState = record { next = Some (f.serial + 1); given = Some f.serial } in
-    let serial : last_serial None (p.done ++ f ∷ []) ≡ Some f.serial = last_push None p.done f in
-    let behind : feeder_after (Frame place) s ≡ feeder_behind (p.done ++ f ∷ []) = step.0 ∙ ap (λ (o : Option ℕ). record { next = option_map (λ n. n + 1) o; given = o }) (sym serial) in record {
+    record {
       done = p.done ++ f ∷ [];
       parts = p.parts ∙ ap (λ xs. p.done ++ xs) (step.1 ∙ ap (λ x. f ∷ rest_of t x) (sym step.0)) ∙ sym (append_assoc p.done (f ∷ []) (rest_of t (feeder_after (Frame place) s)));
-      behind = behind_push at t (feeder_after (Frame place) s) p.done f behind;
+      end_left = p.end_left ∙ step.2 ∙ ap (λ x. (feeding_from (calls_left t x.next) x t).end) (sym step.0);
       last_is = ap (λ o. greater_of o (end f)) p.last_is ∙ sym (ap greatest (map-append end p.done (f ∷ [])) ∙ fold-append greater_of None (ends p.done) (end f ∷ []));
       wrote = subst (λ xs. IsWritten xs old new) (ap (λ xs. flat_map frame_line p.done ++ xs) (sym (append-nil (frame_line f))) ∙ sym (flat_map-append frame_line p.done (f ∷ []))) (wrote_more (flat_map frame_line p.done) (frame_line f) old mid new p.wrote w);
     }
@@ -107,7 +99,7 @@ pub frame_failed : (at : ℤ) (t : TrackState) (s : FeederState) (place : ℕ) (
 frame_failed at t s place f last old mid new is there p w =
     let step = rest_by t s place f is there (still_or_given s t) in
     let rest : List ℕ = flat_map frame_line (rest_of t (record { next = Some (f.serial + 1); given = Some f.serial })) in
-    let end : List ℕ = end_line (answer_behind (frames_for at t) t) in
+    let end : List ℕ = end_line (feeding at t).end in
     let front : List ℕ = flat_map frame_line p.done in
     let whole : given_text at t ≡ front ++ (frame_line f ++ (rest ++ end)) =
     ap (λ xs. flat_map frame_line xs ++ end) (p.parts ∙ ap (λ xs. p.done ++ xs) step.1)
@@ -132,23 +124,20 @@ same_after Wait s h = refl
 same_after Lost s h = refl
 same_after GroupEnd s h = refl
 
-behind_all : (at : ℤ) (t : TrackState) (s : FeederState) (done : List Stored) → IsBehind at t s done → (done ≡ [] → ⊥) → s ≡ feeder_behind done
-behind_all at t s [] h some = absurd (some refl)
-behind_all at t s (f ∷ done) h some = h
-
 -- all are given
 pub record IsGiven (group : GroupPlace) (answer : FeedNext) (last : Option ℤ) (old new : Option (List ℕ)) : Type 0 where
-  pub answer_is : answer ≡ answer_behind (frames_for group.at group.track) group.track
-  pub last_is : last ≡ greatest (ends (frames_for group.at group.track))
-  pub wrote : IsWritten (flat_map frame_line (frames_for group.at group.track)) old new
+  pub answer_is : answer ≡ (feeding group.at group.track).end
+  pub last_is : last ≡ greatest (ends (feeding group.at group.track).frames)
+  pub wrote : IsWritten (flat_map frame_line (feeding group.at group.track).frames) old new
 
 all_given : (at : ℤ) (t : TrackState) (s : FeederState) (wanted : Stored) (answer : FeedNext) (last : Option ℤ) (old new : Option (List ℕ)) → IsSound t → overlapped at t.frames ≡ Some wanted
     → answer ≡ next_answer s t → ((place : ℕ) → answer ≡ Frame place → ⊥) → IsGiving (group_place at t) s last old new → IsGiven (group_place at t) answer last old new
 all_given at t s wanted answer last old new sound shown is other p =
-    let none = none_given t s (calls_left t s.next) (ap (frame_given t.frames) (sym is) ∙ no_frame t.frames answer other) (ap (λ a. feeder_after a s) (sym is) ∙ same_after answer s other) in
-    let all : frames_for at t ≡ p.done = p.parts ∙ ap (λ xs. p.done ++ xs) none ∙ append-nil p.done in
-    let behind : s ≡ feeder_behind p.done = behind_all at t s p.done p.behind (λ e. something_given at t wanted sound shown (all ∙ e)) in record {
-      answer_is = is ∙ ap (λ x. next_answer x t) behind ∙ ap (λ xs. answer_behind xs t) (sym all);
+    let no_more : frame_given t.frames (next_answer s t) ≡ None = ap (frame_given t.frames) (sym is) ∙ no_frame t.frames answer other in
+    let none = none_given t s (calls_left t s.next) no_more (ap (λ a. feeder_after a s) (sym is) ∙ same_after answer s other) in
+    let all : (feeding at t).frames ≡ p.done = p.parts ∙ ap (λ xs. p.done ++ xs) none ∙ append-nil p.done in
+    record {
+      answer_is = is ∙ sym (p.end_left ∙ none_end t s (calls_left t s.next) no_more);
       last_is = p.last_is ∙ ap (λ xs. greatest (ends xs)) (sym all);
       wrote = subst (λ xs. IsWritten (flat_map frame_line xs) old new) (sym all) p.wrote;
     }
@@ -176,13 +165,13 @@ none_failed from at t old mid new is p w =
 
 -- a frame is shown
 shown_parts : (from at : ℤ) (t : TrackState) (wanted : Stored) (old mid : Option (List ℕ)) → IsSound t → overlapped at t.frames ≡ Some wanted → (p : IsFeeding from at t old mid)
-    → feed_text from t ≡ p.front ++ (wanted_line t.id at wanted.serial ++ (given_text at t ++ groups_text (later (end_of at (frames_for at t)) t.frames) (end_of at (frames_for at t)) t))
+    → feed_text from t ≡ p.front ++ (wanted_line t.id at wanted.serial ++ (given_text at t ++ groups_text (later (end_of at (feeding at t).frames) t.frames) (end_of at (feeding at t).frames) t))
 shown_parts from at t wanted old mid sound is p = p.parts ∙ ap (λ xs. p.front ++ xs) (one_group at t wanted sound is)
 
 pub wanted_failed : (from at : ℤ) (t : TrackState) (wanted : Stored) (old mid new : Option (List ℕ)) → IsSound t → overlapped at t.frames ≡ Some wanted → IsFeeding from at t old mid
     → IsFrontWritten (wanted_line t.id at wanted.serial) mid new → IsFrontWritten (feed_text from t) old new
 wanted_failed from at t wanted old mid new sound is p w =
-    let next : ℤ = end_of at (frames_for at t) in
+    let next : ℤ = end_of at (feeding at t).frames in
     let rest : List ℕ = given_text at t ++ groups_text (later next t.frames) next t in
     subst (λ xs. IsFrontWritten xs old new) (sym (shown_parts from at t wanted old mid sound is p))
     (front_more p.front (wanted_line t.id at wanted.serial ++ rest) old mid new p.wrote (front_first (wanted_line t.id at wanted.serial) rest mid new w))
@@ -190,16 +179,16 @@ wanted_failed from at t wanted old mid new sound is p w =
 pub given_failed : (from at : ℤ) (t : TrackState) (wanted : Stored) (old mid put new : Option (List ℕ)) → IsSound t → overlapped at t.frames ≡ Some wanted → IsFeeding from at t old mid
     → IsWritten (wanted_line t.id at wanted.serial) mid put → IsFrontWritten (given_text at t) put new → IsFrontWritten (feed_text from t) old new
 given_failed from at t wanted old mid put new sound is p w v =
-    let next : ℤ = end_of at (frames_for at t) in
+    let next : ℤ = end_of at (feeding at t).frames in
     let rest : List ℕ = groups_text (later next t.frames) next t in
     subst (λ xs. IsFrontWritten xs old new) (sym (shown_parts from at t wanted old mid sound is p))
     (front_more p.front (wanted_line t.id at wanted.serial ++ (given_text at t ++ rest)) old mid new p.wrote
     (front_more (wanted_line t.id at wanted.serial) (given_text at t ++ rest) mid put new w (front_first (given_text at t) rest put new v)))
 
 pub group_put : (from at next : ℤ) (t : TrackState) (wanted : Stored) (old mid put new : Option (List ℕ)) → IsSound t → overlapped at t.frames ≡ Some wanted → IsFeeding from at t old mid
-    → IsWritten (wanted_line t.id at wanted.serial) mid put → IsWritten (given_text at t) put new → next ≡ end_of at (frames_for at t) → IsFeeding from next t old new
+    → IsWritten (wanted_line t.id at wanted.serial) mid put → IsWritten (given_text at t) put new → next ≡ end_of at (feeding at t).frames → IsFeeding from next t old new
 group_put from at next t wanted old mid put new sound is p w v ends =
-    let then : ℤ = end_of at (frames_for at t) in
+    let then : ℤ = end_of at (feeding at t).frames in
     let line : List ℕ = wanted_line t.id at wanted.serial in
     let rest : List ℕ = groups_text (later then t.frames) then t in
     subst (λ (x : ℤ). IsFeeding from x t old new) (sym ends) (record {
@@ -222,16 +211,16 @@ some_frame None h = cc
 some_frame (Some wanted) h = (wanted, refl)
 
 -- the frames were given and their end was told
-pub given_end : (at : ℤ) (t : TrackState) (answer : FeedNext) (last : Option ℤ) (old mid : Option (List ℕ)) → IsGiven (group_place at t) answer last old mid → unwrap_or last at ≡ end_of at (frames_for at t)
+pub given_end : (at : ℤ) (t : TrackState) (answer : FeedNext) (last : Option ℤ) (old mid : Option (List ℕ)) → IsGiven (group_place at t) answer last old mid → unwrap_or last at ≡ end_of at (feeding at t).frames
 given_end at t answer last old mid p = ap (λ o. unwrap_or o at) p.last_is
 
 pub given_put : (at : ℤ) (t : TrackState) (answer : FeedNext) (last : Option ℤ) (old mid new : Option (List ℕ)) → IsGiven (group_place at t) answer last old mid → IsWritten (end_line answer) mid new → IsWritten (given_text at t) old new
 given_put at t answer last old mid new p w =
-    wrote_more (flat_map frame_line (frames_for at t)) (end_line (answer_behind (frames_for at t) t)) old mid new p.wrote (subst (λ a. IsWritten (end_line a) mid new) p.answer_is w)
+    wrote_more (flat_map frame_line (feeding at t).frames) (end_line (feeding at t).end) old mid new p.wrote (subst (λ a. IsWritten (end_line a) mid new) p.answer_is w)
 
 pub end_failed : (at : ℤ) (t : TrackState) (answer : FeedNext) (last : Option ℤ) (old mid new : Option (List ℕ)) → IsGiven (group_place at t) answer last old mid → IsFrontWritten (end_line answer) mid new → IsFrontWritten (given_text at t) old new
 end_failed at t answer last old mid new p w =
-    front_more (flat_map frame_line (frames_for at t)) (end_line (answer_behind (frames_for at t) t)) old mid new p.wrote (subst (λ a. IsFrontWritten (end_line a) mid new) p.answer_is w)
+    front_more (flat_map frame_line (feeding at t).frames) (end_line (feeding at t).end) old mid new p.wrote (subst (λ a. IsFrontWritten (end_line a) mid new) p.answer_is w)
 
 -- the answer is no frame
 pub all_answered : (at : ℤ) (t : TrackState) (s : FeederState) (answer : FeedNext) (last : Option ℤ) (old new : Option (List ℕ)) → IsSound t → IsSome (overlapped at t.frames)
