@@ -11,14 +11,14 @@ use Rattle.mse_calls.specs.declared.calls.EndKind.{EndKind}
 use Rattle.mse_calls.specs.declared.calls.EndKind.TheVariants.{Plain, Network, Decode}
 use Rattle.mse_calls.specs.declared.events.EventKind.{EventKind}
 use Rattle.mse_calls.specs.declared.events.EventKind.TheVariants as event
-use Rattle.element_seek.specs.declared.acted.Acted.{Acted}
-use Rattle.element_seek.specs.declared.acted.Acted.TheVariants.{Done, Refused}
+use Rattle.element_seek.specs.declared.player_answer.PlayerAnswer.{PlayerAnswer}
+use Rattle.element_seek.specs.declared.player_answer.PlayerAnswer.TheVariants.{Done, Refused}
 use Rattle.element_seek.specs.declared.scene.Scene.{Scene}
 use Rattle.element_seek.specs.State.{PlayerState, PlayerChange, player_change, then_after, has_ended, is_playing}
 use Rattle.element_seek.specs.Seeking.{after_seek}
 
 -- what is told, as the answer of a call that may be refused
-abbrev pub done_answer : PlayerChange → AnswerAndState Acted PlayerState
+abbrev pub done_answer : PlayerChange → AnswerAndState PlayerAnswer PlayerState
 done_answer told = record { answer = Done told.answer; state = told.state }
 
 -- ---- play
@@ -38,7 +38,7 @@ after_unpause p =
     else player_change [] p
 
 -- play: refused where the source is not supported, which is the error of code 4
-abbrev pub after_play : Scene → PlayerState → AnswerAndState Acted PlayerState
+abbrev pub after_play : Scene → PlayerState → AnswerAndState PlayerAnswer PlayerState
 after_play scene p =
     if p.error == 4 then record { answer = Refused NotSupported; state = p }
     else done_answer (then_after (after_rewind scene p) after_unpause)
@@ -71,7 +71,7 @@ after_time t scene p =
     if is_playing_on scene p then after_time_in scene.span t p else player_change [] p
 
 -- a length of time passes, which is not negative
-abbrev pub after_advance : ℤ → Scene → PlayerState → AnswerAndState Acted PlayerState
+abbrev pub after_advance : ℤ → Scene → PlayerState → AnswerAndState PlayerAnswer PlayerState
 after_advance t scene p =
     if int_lt t (pos 0) then record { answer = Refused TypeError; state = p }
     else done_answer (after_time t scene p)

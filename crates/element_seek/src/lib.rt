@@ -9,11 +9,11 @@
 //! memory.
 #![tactic(auto)]
 
-mod acted;
 pub mod laws;
 mod player;
+mod player_answer;
 mod scene;
 
-pub use acted::Acted;
 pub use player::Player;
+pub use player_answer::PlayerAnswer;
 pub use scene::Scene;

@@ -6,7 +6,7 @@ ghost use Rattle.element_seek.specs.Playing.{after_play, after_pause, is_playing
 ghost use Rattle.element_seek.specs.Turns.{is_seek_done, is_end_due, is_due, after_turn};
 ghost use Rattle.element_seek.specs.Settling.{after_settle, has_same_level, is_unchanged_by_settle};
 
-use crate::acted::Acted;
+use crate::player_answer::PlayerAnswer;
 use crate::scene::Scene;
 use element_ready::{Facts, events_of_change, is_first_data, level};
 use mse_base::{Moment, Span, Ticks};
@@ -140,12 +140,12 @@ impl Player {
     /// element is paused or not.
     ///
     /// NotSupported where the error code is 4.
-    pub fn play(&mut self, scene: &Scene) -> Acted
+    pub fn play(&mut self, scene: &Scene) -> PlayerAnswer
         ensures answer { result ≡ (after_play scene.now self.old).answer }
         ensures state { self.new ≡ (after_play scene.now self.old).state }
     {
         if self.error == 4 {
-            return Acted::Refused(Name::NotSupported);
+            return PlayerAnswer::Refused(Name::NotSupported);
         }
         let mut events = Changes::new();
         if self.has_ended(scene) {
@@ -161,7 +161,7 @@ impl Player {
                 EventKind::Waiting
             });
         }
-        Acted::Done(events)
+        PlayerAnswer::Done(events)
     }
 
     /// Pauses (HTML, `HTMLMediaElement.pause`).
@@ -202,22 +202,22 @@ impl Player {
     /// data moves on, up to the end of the buffered range.
     ///
     /// TypeError where `t` is negative.
-    pub fn advance(&mut self, t: Ticks, scene: &Scene) -> Acted
+    pub fn advance(&mut self, t: Ticks, scene: &Scene) -> PlayerAnswer
         ensures answer { result ≡ (after_advance t scene.now self.old).answer }
         ensures state { self.new ≡ (after_advance t scene.now self.old).state }
     {
         if t < Ticks::zero() {
-            return Acted::Refused(Name::TypeError);
+            return PlayerAnswer::Refused(Name::TypeError);
         }
         if !self.is_playing_on(scene) {
-            return Acted::Done(Changes::new());
+            return PlayerAnswer::Done(Changes::new());
         }
         match &scene.span {
             Some(range) => {
                 let position = position_after(self.position, t, range);
-                Acted::Done(self.move_to(position))
+                PlayerAnswer::Done(self.move_to(position))
             }
-            None => Acted::Done(Changes::new()),
+            None => PlayerAnswer::Done(Changes::new()),
         }
     }
 

@@ -12,7 +12,7 @@ use Rattle.mse_calls.specs.declared.events.EventKind.{EventKind}
 use Rattle.mse_calls.specs.declared.events.EventKind.TheVariants.{CanPlay, Playing}
 use Rattle.element_ready.specs.declared.facts.Facts.{Facts}
 use Rattle.element_ready.specs.Events.{data_events, future_events, enough_events, stall_events, change_events}
-use Rattle.element_seek.specs.declared.acted.Acted.{Acted}
+use Rattle.element_seek.specs.declared.player_answer.PlayerAnswer.{PlayerAnswer}
 use Rattle.element_seek.specs.declared.scene.Scene.{Scene}
 use Rattle.element_seek.specs.State.{PlayerState, PlayerChange, has_ended}
 use Rattle.element_seek.specs.Seeking.{position_within, after_seek_in, after_seek, after_start, after_load}
@@ -55,7 +55,7 @@ few_in_pause p = by_case 2 p.paused _ _ (omega arith) (omega arith)
 
 -- ---- a call that may be refused
 
-by_refusal : (n : ℕ) (b : Bool) (x y : AnswerAndState Acted PlayerState) → length (told_kinds x.answer) ≤ n → length (told_kinds y.answer) ≤ n → length (told_kinds (cond b x y).answer) ≤ n
+by_refusal : (n : ℕ) (b : Bool) (x y : AnswerAndState PlayerAnswer PlayerState) → length (told_kinds x.answer) ≤ n → length (told_kinds y.answer) ≤ n → length (told_kinds (cond b x y).answer) ≤ n
 by_refusal n true x y h k = h
 by_refusal n false x y h k = k
 

@@ -1,3 +1,4 @@
 pub mod Few
 pub mod Reach
 pub mod QueuedEvents
+pub mod Raised

@@ -6,8 +6,8 @@ use Rattle.mse_calls.specs.declared.events.Event.{Event}
 use Rattle.mse_calls.specs.declared.events.EventKind.{EventKind}
 use Rattle.mse_calls.specs.declared.events.Target.{Target}
 use Rattle.mse_calls.specs.declared.events.Target.TheVariants.{Element}
-use Rattle.element_seek.specs.declared.acted.Acted.{Acted}
-use Rattle.element_seek.specs.declared.acted.Acted.TheVariants.{Done, Refused}
+use Rattle.element_seek.specs.declared.player_answer.PlayerAnswer.{PlayerAnswer}
+use Rattle.element_seek.specs.declared.player_answer.PlayerAnswer.TheVariants.{Done, Refused}
 use Rattle.element_seek.specs.declared.scene.Scene.{Scene}
 use Rattle.element_seek.specs.State.{PlayerState, PlayerChange, player_change}
 use Rattle.element_seek.specs.Turns.{after_turn}
@@ -42,20 +42,20 @@ after_action action e = after_told (action e.player) e
 -- ---- a call that may be refused
 
 -- what is told: nothing where it is refused
-abbrev pub told_kinds : Acted → List EventKind
+abbrev pub told_kinds : PlayerAnswer → List EventKind
 told_kinds (Done kinds) = kinds
 told_kinds (Refused name) = []
 
-abbrev pub refusal : Acted → Option Name
+abbrev pub refusal : PlayerAnswer → Option Name
 refusal (Done kinds) = None
 refusal (Refused name) = Some name
 
 -- the call as an action
-abbrev pub change_by_call : (PlayerState → AnswerAndState Acted PlayerState) → PlayerState
+abbrev pub change_by_call : (PlayerState → AnswerAndState PlayerAnswer PlayerState) → PlayerState
     → PlayerChange
 change_by_call call p = player_change (told_kinds (call p).answer) (call p).state
 
-abbrev pub after_player_call : (PlayerState → AnswerAndState Acted PlayerState) → ElementState
+abbrev pub after_player_call : (PlayerState → AnswerAndState PlayerAnswer PlayerState) → ElementState
     → ElementState
 after_player_call call e = after_action (change_by_call call) e
 

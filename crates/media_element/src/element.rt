@@ -9,8 +9,7 @@ ghost use Rattle.media_element.specs.State.{new_element};
 ghost use Rattle.media_element.specs.Queueing.{events_at, element_events, with_events, after_fire, after_action, told_kinds, refusal, after_player_call, after_own_turn};
 ghost use Rattle.media_element.specs.DurationChange.{sought_end, after_end_seek, after_element_change, IsInReach};
 
-use element_seek::laws::position_inside;
-use element_seek::{Acted, Player, Scene};
+use element_seek::{Player, PlayerAnswer, Scene};
 use mse_base::{Moment, OutOfMemory, Span, Ticks};
 use mse_calls::{Changes, EndKind, Event, EventKind, Level, Name, Target};
 use std::alloc::Global;
@@ -164,8 +163,6 @@ impl Element {
         ensures reached { IsInReach duration scene.now self.old.state.player
             → IsInside duration self.new.state.player.position }
     {
-        // The proof reads off this that the position stays inside the media.
-        position_inside();
         self.tell(Event {
             target: Target::Element,
             kind: EventKind::DurationChange,
@@ -183,8 +180,6 @@ impl Element {
         ensures stays_inside { HasSpansInside scene.now
             → IsStillInside scene.now self.old.state.player self.new.state.player }
     {
-        // The proof reads off this that the position stays inside the media.
-        position_inside();
         let kinds = self.player.load(scene);
         self.tell_at_element(&kinds);
     }
@@ -227,14 +222,12 @@ impl Element {
         ensures stays_inside { HasSpansInside scene.now
             → IsStillInside scene.now self.old.state.player self.new.state.player }
     {
-        // The proof reads off this that the position stays inside the media.
-        position_inside();
         let kinds = self.player.seek(t, scene);
         self.tell_at_element(&kinds);
     }
 
     /// Queues what a call told, and gives the name by which it was refused, if it was.
-    fn answer(&mut self, answer: &Acted) -> Option<Name>
+    fn answer(&mut self, answer: &PlayerAnswer) -> Option<Name>
         requires { length (told_kinds answer.now) ≤ self.old.spare }
         ensures name { result ≡ refusal answer.now }
         ensures state { self.new.state
@@ -242,11 +235,11 @@ impl Element {
         ensures spare { self.new.spare + length (told_kinds answer.now) ≡ self.old.spare }
     {
         match answer {
-            Acted::Done(kinds) => {
+            PlayerAnswer::Done(kinds) => {
                 self.tell_at_element(kinds);
                 None
             }
-            Acted::Refused(name) => Some(*name),
+            PlayerAnswer::Refused(name) => Some(*name),
         }
     }
 
@@ -261,8 +254,6 @@ impl Element {
         ensures stays_inside { HasSpansInside scene.now
             → IsStillInside scene.now self.old.state.player self.new.state.player }
     {
-        // The proof reads off this that the position stays inside the media.
-        position_inside();
         let answer = self.player.play(scene);
         self.answer(&answer)
     }
@@ -290,8 +281,6 @@ impl Element {
         ensures stays_inside { HasSpansInside scene.now
             → IsStillInside scene.now self.old.state.player self.new.state.player }
     {
-        // The proof reads off this that the position stays inside the media.
-        position_inside();
         let answer = self.player.advance(t, scene);
         self.answer(&answer)
     }

@@ -1,2 +1,2 @@
-pub mod Activating
-pub mod Refusing
+pub mod ActivePlaces
+pub mod RefusedDurations

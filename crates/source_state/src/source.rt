@@ -144,7 +144,7 @@ impl Source {
     ///
     /// QuotaExceeded where 16 buffers are in the list, or `2^32 - 1` were ever made; InvalidState
     /// where the source is not open.
-    #[tactic(auto, using(crate::proofs::Activating::few))]
+    #[tactic(auto, using(crate::proofs::ActivePlaces::few))]
     pub fn add_buffer(&mut self) -> Result<Added, OutOfMemory>
         ensures answer { IfOk result (λ added. added ≡ (after_add_buffer self.old).answer) }
         ensures state { IfOk result (λ _. self.new ≡ (after_add_buffer self.old).state) }

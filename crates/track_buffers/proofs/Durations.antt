@@ -1,22 +1,23 @@
 -- Durations within which frames end.
-use Rattle.std.proofs.Common.{◌≡◌, ◌∙◌, ℤ, ◌+ℤ◌, ◌≤ℤ◌, List, [], ◌∷◌, ◌++◌, fold, Some, None, refl, sym, ap, subst, arith}
+use Rattle.std.proofs.Common.{◌≡◌, ◌∙◌, ℤ, pos, ◌+ℤ◌, ◌≤ℤ◌, true, List, [], ◌∷◌, ◌++◌, fold, Some, None, refl, sym, ap, subst, arith, ◌↔◌}
 use Rattle.std.specs.List.{AllByRecursion, flat_map}
 use Rattle.std.specs.Int.{int_max}
 use Rattle.std.proofs.lemmas.Int.{ints}
 use Rattle.mse_base.specs.declared.ticks.Moment.{Moment}
 use Rattle.mse_base.specs.declared.ticks.Moment.TheVariants.{Nan, At, Infinite}
-use Rattle.mse_base.specs.Moments.{greater_of, greatest, greater_moment}
+use Rattle.mse_base.specs.Moments.{greater_of, greatest, greater_moment, IsNotAfter}
+use Rattle.mse_base.specs.declared.track.Kind.TheVariants.{Other}
 use Rattle.mse_base.specs.declared.track.Presentation.{Presentation}
 use Rattle.track_store.specs.declared.store.Stored.{Stored}
 use Rattle.track_store.specs.Frames.{ends}
 use Rattle.track_store.specs.Kept.{AreEndedBy}
-use Rattle.track_store.specs.State.{TrackState}
+use Rattle.track_store.specs.State.{TrackState, new_marks}
 use Rattle.track_buffers.specs.declared.effects.SourceEffect.{SourceEffect}
-use Rattle.track_buffers.specs.Media.{Media, AreEndedWithin, IsNotAfter, no_effect, with_duration}
+use Rattle.track_buffers.specs.Media.{Media, AreEndedWithin, no_effect, with_duration}
 use Rattle.track_buffers.specs.Initialized.{segment_effect}
 use Rattle.track_buffers.specs.Frames.{highest_end_in}
-use Rattle.track_buffers.proofs.Keeping.{ends_none, ends_told}
-use Rattle.track_buffers.proofs.Framing.{changed_is}
+use Rattle.track_buffers.proofs.KeptTracks.{ends_none}
+use Rattle.track_buffers.proofs.CodedFrames.{changed_is}
 
 -- ---- of two times
 
@@ -28,39 +29,108 @@ pub end_by_up : (d e : ℤ) (ts : List TrackState) → d ≤ℤ e → AreEndedBy
 end_by_up d e [] le h = tt
 end_by_up d e (t ∷ ts) le h = (limit_up d e t.frames le h.0, end_by_up d e ts le h.1)
 
-pub not_after_at : (d e : ℤ) → d ≤ℤ e → IsNotAfter (At d) (At e)
-not_after_at d e le ts h = end_by_up d e ts le h
+-- what ends within a duration ends within one that is not before it
+pub within_later : (d e : Moment) (ts : List TrackState) → IsNotAfter d e → AreEndedWithin d ts → AreEndedWithin e ts
+within_later Nan e ts later h = ends_none e ts h
+within_later (At d) Nan ts later h = absurd later
+within_later (At d) (At e) ts later h = end_by_up d e ts later h
+within_later (At d) Infinite ts later h = tt
+within_later Infinite Nan ts later h = absurd later
+within_later Infinite (At e) ts later h = absurd later
+within_later Infinite Infinite ts later h = tt
 
-pub not_after_nan : (e : Moment) → IsNotAfter Nan e
-not_after_nan e ts h = ends_none e ts h
+-- a track buffer with one frame, which ends at a time
+abbrev tracks_until : ℤ → List TrackState
+tracks_until d =
+    (record {
+      id = 0;
+      kind = Other;
+      codec = [];
+      frames = (record {
+        serial = 0;
+        frame = record { track_id = 0; pts = d; dts = d; dur = pos 0; sync = true; payload = [] };
+      }) ∷ [];
+      marks = new_marks;
+    }) ∷ []
 
-pub not_after_infinite : (d : Moment) → IsNotAfter d Infinite
-not_after_infinite d ts h = tt
+until_there : (d e : ℤ) → d ≤ℤ e → (d +ℤ pos 0) ≤ℤ e
+until_there d e le = omega (arith, ints)
+
+there_until : (d e : ℤ) → (d +ℤ pos 0) ≤ℤ e → d ≤ℤ e
+there_until d e le = omega (arith, ints)
+
+itself : (d : ℤ) → d ≤ℤ d
+itself d = omega (arith, ints)
+
+no_later : (e : ℤ) → (e +ℤ pos 1) ≤ℤ e → ⊥
+no_later e le = omega (arith, ints)
+
+ended_until : (d : ℤ) → AreEndedBy d (tracks_until d)
+ended_until d = ((until_there d d (itself d), tt), tt)
+
+until_by : (d e : ℤ) → AreEndedBy e (tracks_until d) → d ≤ℤ e
+until_by d e h = there_until d e h.0.0
+
+some_frame : (d : ℤ) → AllByRecursion (λ t. t.frames ≡ []) (tracks_until d) → ⊥
+some_frame d h = let none = h.0 in cc
+
+-- where all that ends within a duration ends within another one, it is not after that
+not_after_within : (d e : Moment) → ((ts : List TrackState) → AreEndedWithin d ts → AreEndedWithin e ts) → IsNotAfter d e
+not_after_within Nan e later = tt
+not_after_within (At d) Nan later = some_frame d (later (tracks_until d) (ended_until d))
+not_after_within (At d) (At e) later = until_by d e (later (tracks_until d) (ended_until d))
+not_after_within (At d) Infinite later = tt
+not_after_within Infinite Nan later = some_frame (pos 0) (later (tracks_until (pos 0)) tt)
+not_after_within Infinite (At e) later = no_later e (until_by (e +ℤ pos 1) e (later (tracks_until (e +ℤ pos 1)) tt))
+not_after_within Infinite Infinite later = tt
+
+pub not_after_ends : (d e : Moment) → IsNotAfter d e ↔ ((ts : List TrackState) → AreEndedWithin d ts → AreEndedWithin e ts)
+not_after_ends d e = (λ later ts h. within_later d e ts later h, not_after_within d e)
+
+pub not_after_itself : (d : Moment) → IsNotAfter d d
+not_after_itself Nan = tt
+not_after_itself (At d) = itself d
+not_after_itself Infinite = tt
 
 -- where nothing is done at the source
 pub not_after_none : (d : Moment) (b : SourceEffect) → b ≡ no_effect d → IsNotAfter d b.duration
-not_after_none d b is ts h = subst (λ (m : Moment). AreEndedWithin m ts) (sym (ap (λ (x : SourceEffect). x.duration) is)) h
+not_after_none d b is = subst (λ (m : Moment). IsNotAfter d m) (sym (ap (λ (x : SourceEffect). x.duration) is)) (not_after_itself d)
+
+at_both : (c d e : ℤ) → c ≤ℤ d → d ≤ℤ e → c ≤ℤ e
+at_both c d e first second = omega (arith, ints)
 
 pub not_after_both : (c d e : Moment) → IsNotAfter c d → IsNotAfter d e → IsNotAfter c e
-not_after_both c d e first second ts h = second ts (first ts h)
+not_after_both Nan d e first second = tt
+not_after_both (At c) Nan e first second = absurd first
+not_after_both (At c) (At d) Nan first second = second
+not_after_both (At c) (At d) (At e) first second = at_both c d e first second
+not_after_both (At c) (At d) Infinite first second = tt
+not_after_both (At c) Infinite Nan first second = second
+not_after_both (At c) Infinite (At e) first second = absurd second
+not_after_both (At c) Infinite Infinite first second = tt
+not_after_both Infinite Nan e first second = absurd first
+not_after_both Infinite (At d) e first second = absurd first
+not_after_both Infinite Infinite e first second = second
 
 max_above : (d t : ℤ) → d ≤ℤ int_max d t
 max_above d t = grind (arith, ints)
 
 -- a duration that is raised
 pub not_after_raised : (d : Moment) (t : ℤ) → IsNotAfter d (greater_moment d t)
-not_after_raised Nan t ts h = ends_none (At t) ts h
-not_after_raised (At d) t ts h = end_by_up d (int_max d t) ts (max_above d t) h
-not_after_raised Infinite t ts h = tt
+not_after_raised Nan t = tt
+not_after_raised (At d) t = max_above d t
+not_after_raised Infinite t = tt
 
 -- as it is raised by a stored frame
 pub not_after_stored : (g : ℤ) (d r : Moment) (b : SourceEffect) → r ≡ greater_moment d g → b ≡ with_duration r (no_effect d) → IsNotAfter d b.duration
-not_after_stored g d r b raised is ts h =
-    subst (λ (m : Moment). AreEndedWithin m ts) (sym (ap (λ (x : SourceEffect). x.duration) is ∙ changed_is r (no_effect d) ∙ raised)) (not_after_raised d g ts h)
+not_after_stored g d r b raised is =
+    subst (λ (m : Moment). IsNotAfter d m) (sym (ap (λ (x : SourceEffect). x.duration) is ∙ changed_is r (no_effect d) ∙ raised)) (not_after_raised d g)
 
 -- as a segment tells it
 pub not_after_told : (p : Presentation) (d : Moment) (b : SourceEffect) → b ≡ segment_effect p d → IsNotAfter d b.duration
-not_after_told p d b is ts h = ends_told p d b ts is h
+not_after_told p Nan b is = tt
+not_after_told p (At d) b is = not_after_none (At d) b is
+not_after_told p Infinite b is = not_after_none Infinite b is
 
 -- ---- the highest end
 
@@ -120,3 +190,10 @@ empty_by (t ∷ ts) h =
 -- where there is no highest end, there is no frame
 pub highest_none : (m : Media) → highest_end_in m ≡ None → AllByRecursion (λ t. t.frames ≡ []) m.tracks
 highest_none m h = empty_by m.tracks (greatest_none (flat_map (λ t. ends t.frames) m.tracks) h)
+
+no_ends : (ts : List TrackState) → AllByRecursion (λ t. t.frames ≡ []) ts → flat_map (λ t. ends t.frames) ts ≡ []
+no_ends [] h = refl
+no_ends (t ∷ ts) h = ap (λ (fs : List Stored). ends fs ++ flat_map (λ u. ends u.frames) ts) h.0 ∙ no_ends ts h.1
+
+pub highest_nothing : (m : Media) → (highest_end_in m ≡ None) ↔ AllByRecursion (λ t. t.frames ≡ []) m.tracks
+highest_nothing m = (highest_none m, λ h. ap greatest (no_ends m.tracks h))

@@ -12,7 +12,7 @@ use Rattle.mse_base.specs.Spans.{reaches, IsNormalized, last_from, last_of}
 use Rattle.mse_base.proofs.Meeting.{all_normalized, meet_normalized}
 use Rattle.track_buffers.specs.Buffered.{last_end, last_ends, with_last_end, with_end, with_common_end}
 use Rattle.track_buffers.proofs.Durations.{greatest_bounds, greatest_none}
-use Rattle.track_buffers.proofs.Ranging.{grown_all}
+use Rattle.track_buffers.proofs.SharedRanges.{grown_all}
 
 -- there is a last range, and it ends at a time
 abbrev pub HasLastEnd : ℤ → List Span → Type 0

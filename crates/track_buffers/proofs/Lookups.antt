@@ -11,7 +11,7 @@ use Rattle.mse_base.proofs.Meeting.{all_normalized, meet_push}
 use Rattle.mse_base.proofs.Holding.{find-meet}
 use Rattle.track_buffers.specs.Buffered.{with_last_end, with_common_end}
 use Rattle.track_buffers.proofs.Loops.{found_at}
-use Rattle.track_buffers.proofs.Ranging.{all_here, all_front, lasting_to, last_after}
+use Rattle.track_buffers.proofs.SharedRanges.{all_here, all_front, lasting_to, last_after}
 
 not_begun : (s : Span) (t : ℤ) → t <ℤ s.start → reaches t s ≡ false
 not_begun s t h = grind (arith, ints)

@@ -9,7 +9,7 @@ use Rattle.track_store.specs.Kept.{gaps_of}
 use Rattle.track_store.specs.State.{states_of, stores_of}
 use Rattle.track_buffers.specs.Media.{is_empty_list, least_room, room_of}
 use Rattle.track_buffers.specs.Initialized.{is_media_track}
-use Rattle.track_buffers.proofs.Keeping.{media_more}
+use Rattle.track_buffers.proofs.KeptTracks.{media_more}
 
 -- one track is written, and not its store
 pub stores_set : {S : Type 0} (ts : List (Track S)) (i : ℕ) (t u : Track S) → slice_get ts i ≡ Some t → u.store ≡ t.store → stores_of (set ts i u) ≡ stores_of ts

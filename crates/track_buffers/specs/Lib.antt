@@ -8,3 +8,5 @@ pub mod Views
 pub mod Extended
 pub mod Ahead
 pub mod Watching
+pub mod Placed
+pub mod Numbers

@@ -73,10 +73,6 @@ AreEndedWithin Nan ts = AllByRecursion (λ t. t.frames ≡ []) ts
 AreEndedWithin (At d) ts = AreEndedBy d ts
 AreEndedWithin Infinite ts = Unit {0}
 
--- a duration is not after another one: what ends within it ends within the other
-abbrev pub IsNotAfter : Moment → Moment → Type 0
-IsNotAfter d e = (ts : List TrackState) → AreEndedWithin d ts → AreEndedWithin e ts
-
 -- ---- what comes of an item at the media source
 
 -- nothing, where this is the duration

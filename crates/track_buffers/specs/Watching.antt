@@ -1,4 +1,5 @@
--- A time that is looked up at each step, whose buffered range stays known while frames come, of one track at a time.
+-- A device of the proof: a time that is looked up at each step, whose buffered range stays known while frames come, of
+-- one track at a time.
 use Rattle.std.specs.Prelude.{◌≡◌, ◌≤◌, ◌+◌, ◌-◌, ℕ, ℤ, int_lt, nat_le, Bool, false, ◌&&◌, List, map, find, Option, Some, None, if◌then◌else◌}
 use Rattle.std.specs.List.{count_by}
 use Rattle.std.specs.Option.{IfSome}

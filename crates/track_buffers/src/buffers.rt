@@ -1,12 +1,13 @@
 ghost use Rattle.std.specs.Prelude.{◌≡◌, ◌≢◌, ◌≤◌, ◌<◌, ◌^◌, ◌+◌, ℤ, pos, ◌≤ℤ◌, true, false, find, length, None, IfOk, OnOk};
 ghost use Rattle.std.specs.List.{AllByRecursion};
 ghost use Rattle.mse_base.specs.declared.ticks.Moment.{Moment};
+ghost use Rattle.mse_base.specs.Moments.{IsNotAfter};
 ghost use Rattle.mse_base.specs.Spans.{first_of, last_of, reaches};
 ghost use Rattle.track_store.specs.Kept.{AreSoundAndCountable};
 ghost use Rattle.track_store.specs.Sound.{IsSound};
 ghost use Rattle.track_store.specs.State.{states_of};
 ghost use Rattle.track_buffers.specs.Effects.{media_result, source_effect};
-ghost use Rattle.track_buffers.specs.Media.{is_awaiting_first, AreEndedWithin, IsNotAfter};
+ghost use Rattle.track_buffers.specs.Media.{is_awaiting_first, AreEndedWithin};
 ghost use Rattle.track_buffers.specs.Settings.{new_media, with_mode, with_offset, with_window_start, with_window_end, with_whole_window, with_container};
 ghost use Rattle.track_buffers.specs.Initialized.{media_tracks, init_fault, init_result};
 ghost use Rattle.track_buffers.specs.Frames.{frame_result, flush_result, media_after_reset, media_after_removal, media_after_eviction, used_in, highest_start_in, highest_end_in};

@@ -1,14 +1,15 @@
 //! Coded frames, and the marks where the parser is reset.
 
-ghost use Rattle.std.specs.Prelude.{◌≡◌, ◌≤◌, ◌<◌, ◌+◌, ℕ, ℤ, pos, ◌≤ℤ◌, ◌==◌, Bool, false, Some, map, length, slice_get, slice_set, IfSome};
+ghost use Rattle.std.specs.Prelude.{◌≡◌, ◌≤◌, ◌<◌, ℕ, ℤ, pos, ◌≤ℤ◌, ◌==◌, Bool, false, Some, map, length, slice_get, slice_set, IfSome};
 ghost use Rattle.mse_base.specs.declared.ticks.Moment.{Moment};
 ghost use Rattle.track_store.specs.Kept.{AreSoundAndCountable, HasSpareRoom, bytes_in, gaps_of};
 ghost use Rattle.track_store.specs.State.{state_of, states_of};
 ghost use Rattle.range_removal.specs.Rooms.{IsRoomKept};
 ghost use Rattle.track_buffers.specs.Effects.{media_result, source_effect};
-ghost use Rattle.track_buffers.specs.Media.{media_of, AreEndedWithin, IsNotAfter};
-ghost use Rattle.frame_rules.specs.Place.{IsRoomTakenAt};
-ghost use Rattle.track_buffers.specs.Frames.{has_number, place_of, frame_result_at, unset_track, AreFramesSetAt, IsTrackPlace, track_ids};
+ghost use Rattle.track_buffers.specs.Media.{media_of};
+ghost use Rattle.track_buffers.specs.Placed.{AreKeptButAt, IsFrameEffect, IsReadyAt};
+ghost use Rattle.frame_rules.specs.Placing.{AreStoresKept};
+ghost use Rattle.track_buffers.specs.Frames.{has_number, place_of, frame_result_at, unset_track, IsTrackPlace};
 
 use crate::effects::{MediaEffect, MediaFault, duration_change, no_effect};
 use frame_rules::{Placed, place_with_used};
@@ -71,32 +72,18 @@ pub(crate) fn process_at<S: FrameStore>(
     used: u64,
 ) -> MediaEffect
     requires used { used ≡ bytes_in (states_of S.frames tracks.old.items) }
-    requires in_range { i < length tracks.old.items }
-    requires room { HasSpareRoom S.spare 1 tracks.old.items }
-    requires sound_and_countable { AreSoundAndCountable (states_of S.frames tracks.old.items) }
-    requires window_start { pos 0 ≤ℤ settings.old.window_start }
-    requires dur_not_negative { pos 0 ≤ℤ frame.dur }
+    requires ready { IsReadyAt S.frames S.spare i frame settings.old tracks.old.items }
     ensures result { (pending : Bool) (gap : ℤ)
         → media_result result (media_of S.frames tracks.new.items settings.new pending gap)
         ≡ frame_result_at (Some i) frame
         (media_of S.frames tracks.old.items settings.old pending gap) duration.now }
-    ensures changes { (source_effect result).duration_changes ≤ 1 }
-    ensures sound_and_countable { AreSoundAndCountable (states_of S.frames tracks.new.items) }
+    ensures effect { IsFrameEffect duration.now (states_of S.frames tracks.old.items)
+        (states_of S.frames tracks.new.items) (source_effect result) }
+    ensures tracks { AreKeptButAt i (states_of S.frames tracks.old.items)
+        (states_of S.frames tracks.new.items) }
     ensures window_start { pos 0 ≤ℤ settings.new.window_start }
     ensures window_end { settings.new.window_end ≡ settings.old.window_end }
-    ensures within_duration { AreEndedWithin duration.now (states_of S.frames tracks.old.items)
-        → AreEndedWithin (source_effect result).duration (states_of S.frames tracks.new.items) }
-    ensures no_fall { IsNotAfter duration.now (source_effect result).duration }
-    ensures no_init { (source_effect result).received_init ≡ false }
-    ensures frames { IfSome (slice_get (states_of S.frames tracks.new.items) i)
-        (λ t. AreFramesSetAt i (states_of S.frames tracks.old.items)
-        (states_of S.frames tracks.new.items) t) }
-    ensures ids { track_ids (states_of S.frames tracks.new.items)
-        ≡ track_ids (states_of S.frames tracks.old.items) }
-    ensures spare { IsRoomTakenAt S.spare i tracks.old.items tracks.new.items }
-    ensures room { (n : ℕ) → HasSpareRoom S.spare (n + 1) tracks.old.items
-        → HasSpareRoom S.spare n tracks.new.items }
-    ensures gaps { gaps_of S.gap tracks.new.items ≡ gaps_of S.gap tracks.old.items }
+    ensures stores { AreStoresKept S.spare S.gap i tracks.old.items tracks.new.items }
     ensures places { tracks.new.spare ≡ tracks.old.spare }
 {
     match place_with_used(tracks, settings, i, frame, used) {

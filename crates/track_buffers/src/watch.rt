@@ -25,7 +25,8 @@ pub(crate) struct Watch {
 
 /// How many ranges end where the shared one does, where one more track has the range `own`.
 fn least_with(shared: &Option<Span>, n: usize, own: &Option<Span>) -> usize
-    ensures { result ≤ least_with shared.now n own.now }
+    ensures at_most { result ≤ least_with shared.now n own.now }
+    ensures value { n < 18446744073709551615 → result ≡ least_with shared.now n own.now }
 {
     match (shared, own) {
         (Some(shared), Some(own)) => {

@@ -1,4 +1,4 @@
-use element_seek::{Acted, Player, Scene};
+use element_seek::{Player, PlayerAnswer, Scene};
 use mse_base::{Moment, Span, Ticks};
 use mse_calls::{Changes, EndKind, EventKind, Level, Name};
 use std::process::Abort;
@@ -37,17 +37,17 @@ fn are_events(events: &Changes, wanted: &[EventKind]) -> bool {
     events.as_slice() == wanted
 }
 
-fn is_told(acted: Acted, wanted: &[EventKind]) -> bool {
+fn is_told(acted: PlayerAnswer, wanted: &[EventKind]) -> bool {
     match acted {
-        Acted::Done(events) => are_events(&events, wanted),
-        Acted::Refused(_) => false,
+        PlayerAnswer::Done(events) => are_events(&events, wanted),
+        PlayerAnswer::Refused(_) => false,
     }
 }
 
-fn is_refused_with(acted: Acted, wanted: Name) -> bool {
+fn is_refused_with(acted: PlayerAnswer, wanted: Name) -> bool {
     match acted {
-        Acted::Refused(name) => name == wanted,
-        Acted::Done(_) => false,
+        PlayerAnswer::Refused(name) => name == wanted,
+        PlayerAnswer::Done(_) => false,
     }
 }
 
@@ -63,14 +63,14 @@ enum PlayerCall {
 }
 
 /// Does it, and tells what comes of it.
-fn perform(player: &mut Player, scene: &Scene, act: PlayerCall) -> Result<Acted, Fail> {
+fn perform(player: &mut Player, scene: &Scene, act: PlayerCall) -> Result<PlayerAnswer, Fail> {
     match act {
-        PlayerCall::Seek(t) => Ok(Acted::Done(player.seek(time(t)?, scene))),
+        PlayerCall::Seek(t) => Ok(PlayerAnswer::Done(player.seek(time(t)?, scene))),
         PlayerCall::Play => Ok(player.play(scene)),
-        PlayerCall::Pause => Ok(Acted::Done(player.pause())),
+        PlayerCall::Pause => Ok(PlayerAnswer::Done(player.pause())),
         PlayerCall::Advance(t) => Ok(player.advance(time(t)?, scene)),
-        PlayerCall::Turn => Ok(Acted::Done(player.turn(scene).ok_or("no turn")?)),
-        PlayerCall::Settle => Ok(Acted::Done(player.settle(scene))),
+        PlayerCall::Turn => Ok(PlayerAnswer::Done(player.turn(scene).ok_or("no turn")?)),
+        PlayerCall::Settle => Ok(PlayerAnswer::Done(player.settle(scene))),
     }
 }
 

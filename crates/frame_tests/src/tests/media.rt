@@ -3,7 +3,7 @@
 ghost use Rattle.std.specs.Prelude.{◌≡◌, ◌<◌, ◌≤◌, ◌^◌, [], pos, ◌≤ℤ◌, length, IfOk, IfSome, slice_get, OnOk};
 ghost use Rattle.track_store.specs.State.{state_of, states_of};
 ghost use Rattle.track_store.specs.Sound.{IsSound};
-ghost use Rattle.track_store.specs.Kept.{AreSoundAndCountable};
+ghost use Rattle.track_store.specs.Kept.{IsCountable, AreSoundAndCountable};
 
 use frame_rules::{Placed, place};
 use mse_base::{Bytes, CodedFrame, Kind, Moment, OutOfMemory, Ticks, convert};
@@ -82,6 +82,7 @@ pub(super) fn empty_track<S: FrameStore>(alloc: Global, kind: Kind, received: u6
     requires { received ≤ 2 ^ 62 }
     ensures empty { S.frames result.store ≡ [] }
     ensures sound { IsSound (state_of S.frames result) }
+    ensures counted { IsCountable (state_of S.frames result) }
 {
     let mut marks = Marks::new();
     marks.received = received;

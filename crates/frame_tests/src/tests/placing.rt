@@ -4,7 +4,7 @@
 ghost use Rattle.std.specs.Prelude.{◌≡◌, ◌<◌, ◌≤◌, ◌^◌, pos, ◌≤ℤ◌, length, IfOk, IfSome, slice_get};
 ghost use Rattle.track_store.specs.State.{states_of};
 ghost use Rattle.track_store.specs.Sound.{IsSound};
-ghost use Rattle.track_store.specs.Kept.{bytes_in, AreSoundAndCountable};
+ghost use Rattle.track_store.specs.Kept.{IsCountable, bytes_in, AreSoundAndCountable};
 
 use super::media::{
     REPLACED, Sample, empty_track, feed, feed_all, frame_of, not_negative, one_track, reserve_at,
@@ -34,6 +34,8 @@ fn two_tracks<S: FrameStore>(alloc: Global) -> Result<Tracks<S>, OutOfMemory>
 fn beside_unsound<S: FrameStore>(alloc: Global) -> Result<Tracks<S>, OutOfMemory>
     ensures two { IfOk result (λ ts. length ts.items ≡ 2) }
     ensures sound { IfOk result (λ ts. IfSome (slice_get (states_of S.frames ts.items) 0) IsSound) }
+    ensures counted { IfOk result (λ ts.
+        IfSome (slice_get (states_of S.frames ts.items) 0) IsCountable) }
     ensures small { IfOk result (λ ts. bytes_in (states_of S.frames ts.items) < 2 ^ 62) }
 {
     let mut tracks = Tracks::new(alloc);

@@ -3,8 +3,8 @@ use Rattle.std.proofs.lemmas.Int.{ints}
 use Rattle.mse_base.specs.declared.span.Span.{Span}
 use Rattle.mse_base.specs.Spans.{has_end_after}
 use Rattle.track_store.specs.Frames.{ranges_of}
-use Rattle.track_buffers.proofs.Ranging.{track_normalized}
-use Rattle.track_buffers.proofs.Narrowing.{IsNotBefore, found_early, found_or_last, late_found, none_extended, not_before_last}
+use Rattle.track_buffers.proofs.SharedRanges.{track_normalized}
+use Rattle.track_buffers.proofs.FirstAndLastRange.{IsNotBefore, found_early, found_or_last, late_found, none_extended, not_before_last}
 use Rattle.track_buffers.proofs.bounds.extended_span_after.Goals as goal
 
 pub returns-then-lt : goal.returns-then-lt

@@ -6,8 +6,8 @@ use Rattle.mse_base.specs.Spans.{first_of}
 use Rattle.mse_base.proofs.Meeting.{all_normalized}
 use Rattle.mse_base.proofs.Firsts.{HasNoneBefore, first_is, first_none, none_before_it}
 use Rattle.track_buffers.specs.Buffered.{with_end, ranges_in}
-use Rattle.track_buffers.proofs.Narrowing.{first_round, gap_falls_up, none_before_zero}
-use Rattle.track_buffers.proofs.Ranging.{grown_all, ranges_all}
+use Rattle.track_buffers.proofs.FirstAndLastRange.{first_round, gap_falls_up, none_before_zero}
+use Rattle.track_buffers.proofs.SharedRanges.{grown_all, ranges_all}
 use Rattle.track_buffers.proofs.bounds.first_span.Goals as goal
 
 pub loop-span-init : goal.loop-span-init

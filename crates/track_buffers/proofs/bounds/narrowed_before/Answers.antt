@@ -5,7 +5,7 @@ use Rattle.mse_base.specs.Spans.{last_of, has_start_before}
 use Rattle.track_store.specs.declared.tracks.Track.{Track}
 use Rattle.track_store.specs.Frames.{ranges_of}
 use Rattle.track_buffers.specs.Buffered.{ranges_in}
-use Rattle.track_buffers.proofs.Narrowing.{narrowed_more}
+use Rattle.track_buffers.proofs.FirstAndLastRange.{narrowed_more}
 use Rattle.track_buffers.proofs.bounds.narrowed_before.Goals as goal
 
 pub loop-i-preserved : goal.loop-i-preserved

@@ -4,8 +4,8 @@ use Rattle.mse_base.specs.Meets.{meet_of_all}
 use Rattle.mse_base.proofs.Meeting.{all_normalized}
 use Rattle.mse_base.proofs.Lasts.{last_is, last_none, none_from_it}
 use Rattle.track_buffers.specs.Buffered.{ranges_in}
-use Rattle.track_buffers.proofs.Narrowing.{gap_falls_down, last_round, no_last, none_from_highest}
-use Rattle.track_buffers.proofs.Ranging.{ranges_all}
+use Rattle.track_buffers.proofs.FirstAndLastRange.{gap_falls_down, last_round, no_last, none_from_highest}
+use Rattle.track_buffers.proofs.SharedRanges.{ranges_all}
 use Rattle.track_buffers.proofs.bounds.open_last_span.Goals as goal
 
 pub returns-in-None : goal.returns-in-None

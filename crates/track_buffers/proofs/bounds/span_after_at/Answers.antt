@@ -4,7 +4,7 @@ use Rattle.std.proofs.lemmas.Option.{slice_get-map}
 use Rattle.track_store.specs.declared.tracks.Track.{Track}
 use Rattle.track_store.specs.Frames.{ranges_of}
 use Rattle.track_buffers.specs.Buffered.{with_end}
-use Rattle.track_buffers.proofs.Ranging.{all_here}
+use Rattle.track_buffers.proofs.SharedRanges.{all_here}
 use Rattle.track_buffers.proofs.bounds.span_after_at.Goals as goal
 
 pub track_span_after-requires : goal.track_span_after-requires

@@ -1,6 +1,6 @@
 use Rattle.std.proofs.Common.{◌∙◌, ℤ, Option, Bool, map, ap, sym}
 use Rattle.track_buffers.specs.Buffered.{with_end, with_common_end, ranges_in}
-use Rattle.track_buffers.proofs.Ranging.{grown_none}
+use Rattle.track_buffers.proofs.SharedRanges.{grown_none}
 use Rattle.track_buffers.proofs.buffered.common_end.Goals as goal
 
 pub returns-then-ended : goal.returns-then-ended

@@ -1,7 +1,7 @@
 use Rattle.std.proofs.Common.{◌∙◌, ℤ, List, pos, sym, ap}
 use Rattle.mse_base.specs.declared.span.Span.{Span}
 use Rattle.mse_base.specs.Bridging.{ranges_with}
-use Rattle.track_buffers.proofs.Ranging.{ranges_normalized, joined_last, none_grown}
+use Rattle.track_buffers.proofs.SharedRanges.{ranges_normalized, joined_last, none_grown}
 use Rattle.track_buffers.proofs.buffered.extend_last.Goals as goal
 
 pub add_span-requires-clause-ranges : goal.add_span-requires-clause-ranges

@@ -5,7 +5,7 @@ use Rattle.mse_base.specs.declared.span.Span.{Span}
 use Rattle.mse_base.specs.Moments.{greatest}
 use Rattle.track_buffers.specs.Buffered.{last_end, last_ends, ranges_in}
 use Rattle.track_buffers.proofs.Loops.{highest_more}
-use Rattle.track_buffers.proofs.Ranging.{end_here}
+use Rattle.track_buffers.proofs.SharedRanges.{end_here}
 use Rattle.track_buffers.proofs.buffered.highest_range_end.Goals as goal
 
 pub loop-i-preserved : goal.loop-i-preserved

@@ -4,7 +4,7 @@ use Rattle.std.proofs.lemmas.List.{length-map, length-take, take_all}
 use Rattle.track_store.specs.declared.tracks.Track.{Track}
 use Rattle.track_store.specs.Frames.{ranges_of}
 use Rattle.track_buffers.specs.Buffered.{with_end, ranges_in}
-use Rattle.track_buffers.proofs.Ranging.{first_track, met_more, grown_all, ranges_all}
+use Rattle.track_buffers.proofs.SharedRanges.{first_track, met_more, grown_all, ranges_all}
 use Rattle.track_buffers.proofs.buffered.meet_of_all.Goals as goal
 
 pub loop-i-init : goal.loop-i-init

@@ -5,7 +5,7 @@ use Rattle.range_removal.proofs.Rooms.{keeps_both, room_kept, same_length}
 use Rattle.track_store.specs.Kept.{AreSoundAndCountable}
 use Rattle.track_store.specs.State.{states_of}
 use Rattle.track_buffers.specs.Frames.{unset_track}
-use Rattle.track_buffers.proofs.Keeping.{kept_unset}
+use Rattle.track_buffers.proofs.KeptTracks.{kept_unset}
 use Rattle.track_buffers.proofs.frames.unset_all.Goals as goal
 
 pub loop-i-preserved : goal.loop-i-preserved

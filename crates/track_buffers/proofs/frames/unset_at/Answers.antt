@@ -3,7 +3,7 @@ use Rattle.std.specs.Option.{option_copied_mut}
 use Rattle.range_removal.proofs.Rooms.{keeps_set, gaps_set}
 use Rattle.track_store.specs.State.{TrackState, states_of}
 use Rattle.track_buffers.specs.Frames.{unset_track}
-use Rattle.track_buffers.proofs.Editing.{edited, not_there}
+use Rattle.track_buffers.proofs.OneTrack.{edited, not_there}
 use Rattle.track_buffers.proofs.frames.unset_at.Goals as goal
 
 pub returns-in-Some-clause-states : goal.returns-in-Some-clause-states

@@ -1,6 +1,6 @@
 use Rattle.std.proofs.Common.{◌∙◌, sym}
 use Rattle.track_buffers.specs.Buffered.{ranges_in}
-use Rattle.track_buffers.proofs.Ranging.{ranges_all}
+use Rattle.track_buffers.proofs.SharedRanges.{ranges_all}
 use Rattle.track_buffers.proofs.Ended.{last_shared, no_last_shared}
 use Rattle.track_buffers.proofs.holding.ended_last_span.Goals as goal
 

@@ -1,7 +1,7 @@
 use Rattle.std.proofs.Common.{◌∙◌, ◌<ℤ◌, ◌≤ℤ◌, sym, arith}
 use Rattle.std.proofs.lemmas.Int.{ints}
 use Rattle.track_store.specs.Frames.{ranges_of}
-use Rattle.track_buffers.proofs.Ranging.{track_normalized}
+use Rattle.track_buffers.proofs.SharedRanges.{track_normalized}
 use Rattle.track_buffers.proofs.Lookups.{found_before, last_holds, last_misses, none_holds}
 use Rattle.track_buffers.proofs.holding.extended_span_holding.Goals as goal
 

@@ -3,7 +3,7 @@ use Rattle.std.proofs.lemmas.List.{length-map, length-take}
 use Rattle.track_store.specs.declared.tracks.Track.{Track}
 use Rattle.track_store.specs.Frames.{ranges_of}
 use Rattle.track_buffers.specs.Buffered.{with_end, ranges_in}
-use Rattle.track_buffers.proofs.Ranging.{grown_all, ranges_all}
+use Rattle.track_buffers.proofs.SharedRanges.{grown_all, ranges_all}
 use Rattle.track_buffers.proofs.Lookups.{held_more}
 use Rattle.track_buffers.proofs.holding.shared_span_holding.Goals as goal
 

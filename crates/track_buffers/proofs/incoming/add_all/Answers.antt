@@ -1,5 +1,5 @@
 use Rattle.track_store.specs.State.{states_of}
-use Rattle.track_buffers.proofs.Keeping.{made_more, places_here, places_left}
+use Rattle.track_buffers.proofs.KeptTracks.{made_more, places_here, places_left}
 use Rattle.track_buffers.proofs.Stores.{places_taken}
 use Rattle.track_buffers.proofs.incoming.add_all.Goals as goal
 

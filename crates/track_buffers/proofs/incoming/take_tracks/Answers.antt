@@ -4,7 +4,7 @@ use Rattle.track_store.specs.Kept.{AreSoundAndCountable}
 use Rattle.track_store.specs.State.{TrackState, states_of}
 use Rattle.track_buffers.specs.Initialized.{is_media_track}
 use Rattle.track_buffers.specs.Media.{AreEndedWithin}
-use Rattle.track_buffers.proofs.Keeping.{tracks_made, kept_after, ends_after, kept_renewed, ends_renewed}
+use Rattle.track_buffers.proofs.KeptTracks.{tracks_made, kept_after, ends_after, kept_renewed, ends_renewed}
 use Rattle.track_buffers.proofs.Stores.{gaps_by_stores}
 use Rattle.track_buffers.proofs.incoming.take_tracks.Goals as goal
 

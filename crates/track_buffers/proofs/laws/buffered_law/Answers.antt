@@ -1,4 +1,4 @@
-use Rattle.track_buffers.proofs.Ranging.{buffered_is}
+use Rattle.track_buffers.proofs.SharedRanges.{buffered_is}
 use Rattle.track_buffers.proofs.laws.buffered_law.Goals as goal
 
 pub returns : goal.returns

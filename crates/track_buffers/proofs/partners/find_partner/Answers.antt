@@ -5,7 +5,7 @@ use Rattle.std.proofs.lemmas.Option.{slice_get_read}
 use Rattle.mse_base.specs.declared.track.TrackInfo.{TrackInfo}
 use Rattle.track_buffers.specs.Initialized.{is_media_track, is_of_kind, is_numbered}
 use Rattle.track_buffers.proofs.Loops.{find_here, find_none}
-use Rattle.track_buffers.proofs.Pairing.{find_by}
+use Rattle.track_buffers.proofs.TrackPartners.{find_by}
 use Rattle.track_buffers.proofs.partners.find_partner.Goals as goal
 
 pub returns-then-is_partner_of : goal.returns-then-is_partner_of

@@ -3,7 +3,7 @@ use Rattle.std.proofs.lemmas.List.{length-map}
 use Rattle.range_removal.proofs.Loops.{written_more, all_written}
 use Rattle.track_store.specs.State.{TrackState, states_of}
 use Rattle.track_buffers.specs.Initialized.{is_media_track, partner_of, track_with_partner}
-use Rattle.track_buffers.proofs.Pairing.{renewed_here, kinds_renewed_here, same_length}
+use Rattle.track_buffers.proofs.TrackPartners.{renewed_here, kinds_renewed_here, same_length}
 use Rattle.track_buffers.proofs.partners.renew_all.Goals as goal
 
 pub loop-i-preserved : goal.loop-i-preserved

@@ -1,7 +1,7 @@
 use Rattle.std.proofs.Common.{filter, slice_get, Some, None}
 use Rattle.track_store.specs.State.{states_of}
 use Rattle.track_buffers.specs.Initialized.{is_media_track}
-use Rattle.track_buffers.proofs.Editing.{renewed_some, renewed_none}
+use Rattle.track_buffers.proofs.OneTrack.{renewed_some, renewed_none}
 use Rattle.track_buffers.proofs.partners.renew_at.Goals as goal
 
 pub returns-in-Some-clause-states : goal.returns-in-Some-clause-states

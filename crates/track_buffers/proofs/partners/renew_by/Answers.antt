@@ -2,7 +2,7 @@ use Rattle.std.proofs.Common.{◌≡◌, ◌∙◌, ap, sym, set, slice_get, Som
 use Rattle.std.specs.Option.{option_copied_mut}
 use Rattle.track_store.specs.State.{TrackState, states_of}
 use Rattle.track_buffers.specs.Initialized.{track_with_partner}
-use Rattle.track_buffers.proofs.Editing.{edited, not_there}
+use Rattle.track_buffers.proofs.OneTrack.{edited, not_there}
 use Rattle.track_buffers.proofs.Stores.{stores_set}
 use Rattle.track_buffers.proofs.partners.renew_by.Goals as goal
 

@@ -1,4 +1,4 @@
-use Rattle.track_buffers.proofs.Renewing.{highest_end_after_init, media_after_refused_init}
+use Rattle.track_buffers.proofs.HighestEnd.{highest_end_after_init, media_after_refused_init}
 use Rattle.track_buffers.proofs.range_laws.after_initialization_segment.Goals as goal
 
 pub returns-clause-taken : goal.returns-clause-taken

@@ -1,5 +1,5 @@
-use Rattle.track_buffers.proofs.Extending.{find-with_last_end, find-common}
-use Rattle.track_buffers.proofs.Ending.{find-buffered}
+use Rattle.track_buffers.proofs.LastRanges.{find-with_last_end, find-common}
+use Rattle.track_buffers.proofs.EndedRanges.{find-buffered}
 use Rattle.track_buffers.proofs.range_laws.held.Goals as goal
 
 pub returns-clause-last_grown : goal.returns-clause-last_grown

@@ -1,5 +1,5 @@
-use Rattle.track_buffers.proofs.Sharing.{last-meet_of_all, first-meet_of_all, last-common}
-use Rattle.track_buffers.proofs.Ending.{last-held, last-none}
+use Rattle.track_buffers.proofs.SharedEnds.{last-meet_of_all, first-meet_of_all, last-common}
+use Rattle.track_buffers.proofs.EndedRanges.{last-held, last-none}
 use Rattle.track_buffers.proofs.range_laws.last_and_first.Goals as goal
 
 pub returns-clause-last : goal.returns-clause-last

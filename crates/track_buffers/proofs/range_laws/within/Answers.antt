@@ -1,4 +1,4 @@
-use Rattle.track_buffers.proofs.Bounding.{buffered_within, buffered_to_highest, buffered_none}
+use Rattle.track_buffers.proofs.RangeBounds.{buffered_within, buffered_to_highest, buffered_none}
 use Rattle.track_buffers.proofs.range_laws.within.Goals as goal
 
 pub returns-clause-times : goal.returns-clause-times

@@ -1,6 +1,6 @@
 use Rattle.std.proofs.Common.{◌∙◌, ◌<◌, length, arith}
 use Rattle.range_removal.proofs.Rooms.{keeps_both, same_length}
-use Rattle.track_buffers.proofs.Keeping.{room_more}
+use Rattle.track_buffers.proofs.KeptTracks.{room_more}
 use Rattle.track_buffers.proofs.rooms.reserve_all.Goals as goal
 
 pub returns-in_err-reserve_at-clause-no_room_lost : goal.returns-in_err-reserve_at-clause-no_room_lost

@@ -3,7 +3,7 @@ use Rattle.std.specs.Option.{option_copied_mut}
 use Rattle.range_removal.proofs.Rooms.{keeps_set, gaps_set}
 use Rattle.track_store.specs.declared.store.Stored.{Stored}
 use Rattle.track_store.specs.State.{state_of}
-use Rattle.track_buffers.proofs.Editing.{unedited, get_set}
+use Rattle.track_buffers.proofs.OneTrack.{unedited, get_set}
 use Rattle.track_buffers.proofs.rooms.reserve_at.Goals as goal
 
 pub returns-in-Some-clause-states : goal.returns-in-Some-clause-states

@@ -1,7 +1,7 @@
 use Rattle.std.proofs.Common.{◌∙◌, sym}
 use Rattle.track_buffers.specs.Buffered.{ranges_in}
-use Rattle.track_buffers.proofs.Ranging.{ranges_all}
-use Rattle.track_buffers.proofs.Watching.{watch_stays}
+use Rattle.track_buffers.proofs.SharedRanges.{ranges_all}
+use Rattle.track_buffers.proofs.WatchedRange.{watch_stays}
 use Rattle.track_buffers.proofs.watch.watch_after.Goals as goal
 
 pub returns-in-Some-least_after : goal.returns-in-Some-least_after

@@ -3,9 +3,9 @@ use Rattle.std.proofs.lemmas.List.{length-map, length-take}
 use Rattle.track_store.specs.declared.tracks.Track.{Track}
 use Rattle.track_store.specs.Frames.{ranges_of}
 use Rattle.track_buffers.specs.Buffered.{ranges_in}
-use Rattle.track_buffers.proofs.Ranging.{ranges_all}
+use Rattle.track_buffers.proofs.SharedRanges.{ranges_all}
 use Rattle.track_buffers.proofs.Lookups.{held_first, held_more}
-use Rattle.track_buffers.proofs.Watching.{least_first, least_more}
+use Rattle.track_buffers.proofs.WatchedRange.{least_first, least_more}
 use Rattle.track_buffers.proofs.watch.watch_of.Goals as goal
 
 pub loop-i-init : goal.loop-i-init
@@ -29,6 +29,6 @@ loop-i-preserved g c =
     let front : 1 ≤ length (take c.loop-i.i rs) = rw length-take (omega (arith, c.loop-i.invariant.some)) in
     record {
       shared = held_more c.args.t rs c.loop-i.i c.loop-i.span c.own_span_at-own.result c.overlap_of_two-span.result here front (ranges_all F G ts c.requires.gaps_from_zero) c.loop-i.invariant.shared c.own_span_at-own.ensures c.overlap_of_two-span.ensures;
-      least = least_more c.args.t rs c.loop-i.i c.loop-i.least c.least_with-least.result c.loop-i.span c.own_span_at-own.result c.overlap_of_two-span.result here c.loop-i.invariant.least c.own_span_at-own.ensures c.overlap_of_two-span.ensures c.least_with-least.ensures;
+      least = least_more c.args.t rs c.loop-i.i c.loop-i.least c.least_with-least.result c.loop-i.span c.own_span_at-own.result c.overlap_of_two-span.result here c.loop-i.invariant.least c.own_span_at-own.ensures c.overlap_of_two-span.ensures c.least_with-least.ensures.at_most;
       some = omega arith;
     }

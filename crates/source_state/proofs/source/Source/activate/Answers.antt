@@ -1,6 +1,6 @@
 use Rattle.std.proofs.Common.{◌≡◌, ◌∙◌, true, false, [], ◌∷◌, ap, arith, length-append}
 use Rattle.source_state.specs.State.{SourceState, is_listed_in}
-use Rattle.source_state.proofs.Activating.{push_lt}
+use Rattle.source_state.proofs.ActivePlaces.{push_lt}
 use Rattle.source_state.proofs.source.Source.activate.Goals as goal
 
 pub push_reserved-requires : goal.push_reserved-requires

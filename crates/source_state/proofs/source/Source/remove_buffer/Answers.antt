@@ -1,5 +1,5 @@
 use Rattle.std.proofs.Common.{arith}
-use Rattle.source_state.proofs.Activating.{without_le, without_length}
+use Rattle.source_state.proofs.ActivePlaces.{without_le, without_length}
 use Rattle.source_state.proofs.source.Source.remove_buffer.Goals as goal
 
 pub invariant_of-self : goal.invariant_of-self

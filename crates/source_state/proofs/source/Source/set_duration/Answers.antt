@@ -1,5 +1,5 @@
 use Rattle.std.proofs.Common.{◌∙◌, sym}
-use Rattle.source_state.proofs.Refusing.{duration_same}
+use Rattle.source_state.proofs.RefusedDurations.{duration_same}
 use Rattle.source_state.proofs.source.Source.set_duration.Goals as goal
 
 pub returns-in-Some-clause-answer : goal.returns-in-Some-clause-answer

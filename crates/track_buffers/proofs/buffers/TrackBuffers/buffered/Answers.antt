@@ -4,8 +4,8 @@ use Rattle.mse_base.specs.declared.span.Span.{Span}
 use Rattle.track_store.specs.Kept.{gaps_of}
 use Rattle.track_buffers.specs.Buffered.{buffered_of, with_common_end, ranges_in}
 use Rattle.track_buffers.specs.Media.{media_of}
-use Rattle.track_buffers.proofs.Ranging.{ranges_same, ok_spans, ok_buffered}
-use Rattle.track_buffers.proofs.Keeping.{gaps_forward}
+use Rattle.track_buffers.proofs.SharedRanges.{ranges_same, ok_spans, ok_buffered}
+use Rattle.track_buffers.proofs.KeptTracks.{gaps_forward}
 use Rattle.track_buffers.proofs.buffers.TrackBuffers.buffered.Goals as goal
 
 pub buffered_of-requires : goal.buffered_of-requires

@@ -1,5 +1,5 @@
 use Rattle.track_store.specs.State.{states_of}
-use Rattle.track_buffers.proofs.Keeping.{ends_kept, room_kept_by}
+use Rattle.track_buffers.proofs.KeptTracks.{ends_kept, room_kept_by}
 use Rattle.std.proofs.Common.{refl}
 use Rattle.track_store.specs.Kept.{gaps_of}
 use Rattle.track_buffers.proofs.Ahead.{ahead_none}

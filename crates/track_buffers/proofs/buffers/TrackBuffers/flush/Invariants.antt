@@ -1,5 +1,6 @@
 use Rattle.std.proofs.Common.{◌≡◌, ◌≤◌, ◌+◌, length, drop, false}
-use Rattle.track_buffers.specs.Media.{AreEndedWithin, IsNotAfter}
+use Rattle.mse_base.specs.Moments.{IsNotAfter}
+use Rattle.track_buffers.specs.Media.{AreEndedWithin}
 use Rattle.track_buffers.specs.Frames.{flush_result, flush_result_after}
 use Rattle.track_buffers.proofs.buffers.TrackBuffers.flush.Given as goal
 

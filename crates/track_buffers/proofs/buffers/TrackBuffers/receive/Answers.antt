@@ -1,5 +1,5 @@
 use Rattle.track_store.specs.State.{states_of}
-use Rattle.track_buffers.proofs.Keeping.{ends_told}
+use Rattle.track_buffers.proofs.KeptTracks.{ends_told}
 use Rattle.track_buffers.proofs.Durations.{not_after_told}
 use Rattle.track_buffers.proofs.Stores.{room_by_stores, state_there}
 use Rattle.track_buffers.proofs.buffers.TrackBuffers.receive.Goals as goal

@@ -6,9 +6,9 @@ use Rattle.track_store.specs.State.{TrackState, states_of}
 use Rattle.track_buffers.specs.Frames.{IsTrackPlace}
 use Rattle.track_buffers.specs.Buffered.{ranges_in}
 use Rattle.track_buffers.proofs.Ahead.{ahead_least, ahead_kept}
-use Rattle.track_buffers.proofs.Keeping.{all_room, room_kept_by}
+use Rattle.track_buffers.proofs.KeptTracks.{all_room, room_kept_by}
 use Rattle.track_buffers.proofs.Steady.{steady_by}
-use Rattle.track_buffers.proofs.Watching.{watch_kept, ranges_kept}
+use Rattle.track_buffers.proofs.WatchedRange.{watch_kept, ranges_kept}
 use Rattle.track_buffers.proofs.buffers.TrackBuffers.reserve_frames.Goals as goal
 
 pub returns-then-n-least-clause-spare : goal.returns-then-n-least-clause-spare

@@ -1,7 +1,7 @@
 use Rattle.std.proofs.Common.{refl, subst, sym, List}
 use Rattle.track_store.specs.State.{TrackState, states_of}
 use Rattle.track_buffers.specs.Media.{AreEndedWithin}
-use Rattle.track_buffers.proofs.Keeping.{ends_unset, room_kept_by}
+use Rattle.track_buffers.proofs.KeptTracks.{ends_unset, room_kept_by}
 use Rattle.track_store.specs.Kept.{gaps_of}
 use Rattle.track_buffers.proofs.Ahead.{ahead_none}
 use Rattle.track_buffers.proofs.Steady.{steady_by}

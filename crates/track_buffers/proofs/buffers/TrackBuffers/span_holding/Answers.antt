@@ -4,7 +4,7 @@ use Rattle.mse_base.specs.declared.span.Span.{Span}
 use Rattle.mse_base.specs.Spans.{reaches}
 use Rattle.mse_base.specs.Meets.{meet_of_all}
 use Rattle.track_buffers.specs.Buffered.{with_common_end}
-use Rattle.track_buffers.proofs.Ranging.{ranges_same}
+use Rattle.track_buffers.proofs.SharedRanges.{ranges_same}
 use Rattle.track_buffers.proofs.buffers.TrackBuffers.span_holding.Goals as goal
 
 pub returns : goal.returns

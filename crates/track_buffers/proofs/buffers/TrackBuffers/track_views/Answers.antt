@@ -2,7 +2,7 @@ use Rattle.std.proofs.Common.{map}
 use Rattle.track_store.specs.declared.tracks.Track.{Track}
 use Rattle.track_store.specs.State.{state_of, states_of}
 use Rattle.track_buffers.specs.Views.{track_view}
-use Rattle.track_buffers.proofs.Keeping.{ok_same, views_same}
+use Rattle.track_buffers.proofs.KeptTracks.{ok_same, views_same}
 use Rattle.track_buffers.proofs.buffers.TrackBuffers.track_views.Goals as goal
 
 pub returns : goal.returns

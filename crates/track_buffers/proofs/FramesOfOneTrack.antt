@@ -20,7 +20,7 @@ use Rattle.frame_rules.specs.Put.{drop_reason, track_by_reason, track_after_fram
 use Rattle.frame_rules.specs.Place.{Placement, new_placement, track_after_reset, placement_in_track, placement_by_times, placement_in, placement, is_over_limit}
 use Rattle.track_buffers.specs.Frames.{has_number, place_of, track_frames, track_ids, AreFramesSetAt}
 use Rattle.track_buffers.proofs.Loops.{set_itself}
-use Rattle.track_buffers.proofs.Editing.{get_set}
+use Rattle.track_buffers.proofs.OneTrack.{get_set}
 
 -- the frames of all tracks but that at a place are those of other tracks
 abbrev AreFramesSetAlone : ℕ → List TrackState → List TrackState → Type 0

@@ -25,10 +25,10 @@ use Rattle.track_buffers.specs.Buffered.{ranges_in}
 use Rattle.track_buffers.specs.declared.watch.Watch.{Watch}
 use Rattle.track_buffers.specs.Watching.{end_or, is_ended_at, least_with, least_after, least_after_end, HasLeast, IsWatchOf}
 use Rattle.track_buffers.specs.Frames.{AreFramesSetAt, track_frames}
-use Rattle.track_buffers.proofs.Ranging.{ranges_same}
-use Rattle.track_buffers.proofs.Sharing.{IsEndedBy}
+use Rattle.track_buffers.proofs.SharedRanges.{ranges_same}
+use Rattle.track_buffers.proofs.SharedEnds.{IsEndedBy}
 use Rattle.track_buffers.proofs.Loops.{found_at, set_itself}
-use Rattle.track_buffers.proofs.Editing.{get_set}
+use Rattle.track_buffers.proofs.OneTrack.{get_set}
 
 -- ---- one of some spans is set
 

@@ -1,8 +1,8 @@
 -- The first and the last buffered range, by one look-up in each track at a time.
-use Rattle.std.proofs.Common.{◌≡◌, ◌∙◌, ℕ, ℤ, pos, ◌+◌, ◌^◌, ◌<◌, ◌≤◌, ◌<ℤ◌, ◌≤ℤ◌, Bool, true, false, cond, List, [], ◌∷◌, ◌++◌, length, map, take, slice_get, Option, Some, None, option_map, unwrap_or, refl, sym, ap, subst, arith}
+use Rattle.std.proofs.Common.{◌≡◌, ◌∙◌, ℕ, ℤ, pos, ◌+◌, ◌+ℤ◌, ◌<◌, ◌≤◌, ◌<ℤ◌, ◌≤ℤ◌, Bool, true, false, cond, List, [], ◌∷◌, ◌++◌, length, map, take, slice_get, Option, Some, None, option_map, unwrap_or, refl, sym, ap, subst, arith}
 use Rattle.std.specs.List.{AllByRecursion, filter, find}
 use Rattle.std.specs.Option.{IfSome, option_to_list}
-use Rattle.std.specs.Int.{int_gap}
+use Rattle.std.specs.Int.{int_gap, int_max}
 use Rattle.std.proofs.lemmas.Int.{ints}
 use Rattle.std.proofs.lemmas.List.{length-map, map-append}
 use Rattle.mse_base.specs.declared.span.Span.{Span}
@@ -14,17 +14,17 @@ use Rattle.mse_base.proofs.Lasts.{IsFoundBefore, none_from_last, none_from_one}
 use Rattle.mse_base.proofs.Lasts as lasts
 use Rattle.track_store.specs.declared.store.Stored.{Stored}
 use Rattle.track_store.specs.declared.tracks.Track.{Track}
-use Rattle.track_store.specs.Frames.{IsTimed, interval}
+use Rattle.track_store.specs.Frames.{interval}
 use Rattle.track_store.specs.Kept.{AreSoundAndCountable}
 use Rattle.track_store.specs.Sound.{IsNotNegative, IsSound}
 use Rattle.track_store.specs.State.{states_of}
 use Rattle.track_buffers.specs.Buffered.{last_ends, with_last_end, with_common_end, ranges_in}
 use Rattle.track_buffers.specs.Extended.{IsSpanWithin}
-use Rattle.track_buffers.proofs.Bounding.{common_inside, ranges_inside, shared_inside}
+use Rattle.track_buffers.proofs.RangeBounds.{common_inside, ranges_inside, shared_inside}
 use Rattle.track_buffers.proofs.Durations.{greatest_bounds, greatest_none}
 use Rattle.track_buffers.proofs.Ended.{none_shared}
 use Rattle.track_buffers.proofs.Loops.{found_at}
-use Rattle.track_buffers.proofs.Ranging.{grown_none, last_after, lasting_to}
+use Rattle.track_buffers.proofs.SharedRanges.{grown_none, last_after, lasting_to}
 
 -- ---- one more track
 
@@ -96,16 +96,33 @@ none_extended t e (s ∷ ss) l = absurd (is_some s ss l)
 
 -- ---- where the look-ups begin
 
--- the frames of a sound track lie between 0 and the greatest time
-frames_within : (fs : List Stored) → AllByRecursion IsNotNegative fs → AllByRecursion IsTimed fs → AllByRecursion (λ f. IsSpanWithin (pos 0) (pos (2 ^ 110)) (interval f)) fs
-frames_within [] h k = tt
-frames_within (f ∷ fs) h k = (((h.0).0, ((k.0).1).1), frames_within fs h.1 k.1)
+-- the frames of sound tracks lie between 0 and a time
+abbrev high : List Stored → ℤ
+high [] = pos 0
+high (f ∷ fs) = int_max (f.frame.pts +ℤ f.frame.dur) (high fs)
 
-ranges_within : {S : Type 0} (frames : S → List Stored) (gap : S → ℤ) (ts : List (Track S)) → AllByRecursion IsSound (states_of frames ts) → AllByRecursion (AllByRecursion (IsSpanWithin (pos 0) (pos (2 ^ 110)))) (ranges_in frames gap ts)
-ranges_within frames gap [] h = tt
-ranges_within frames gap (t ∷ ts) h =
+abbrev high_all : {S : Type 0} → (S → List Stored) → List (Track S) → ℤ
+high_all frames [] = pos 0
+high_all frames (t ∷ ts) = int_max (high (frames t.store)) (high_all frames ts)
+
+left_below : (a b e : ℤ) → int_max a b ≤ℤ e → a ≤ℤ e
+left_below a b e h = grind (arith, ints)
+
+right_below : (a b e : ℤ) → int_max a b ≤ℤ e → b ≤ℤ e
+right_below a b e h = grind (arith, ints)
+
+itself : (e : ℤ) → e ≤ℤ e
+itself e = omega (arith, ints)
+
+frames_within : (e : ℤ) (fs : List Stored) → AllByRecursion IsNotNegative fs → high fs ≤ℤ e → AllByRecursion (λ f. IsSpanWithin (pos 0) e (interval f)) fs
+frames_within e [] h k = tt
+frames_within e (f ∷ fs) h k = (((h.0).0, left_below (f.frame.pts +ℤ f.frame.dur) (high fs) e k), frames_within e fs h.1 (right_below (f.frame.pts +ℤ f.frame.dur) (high fs) e k))
+
+ranges_within : {S : Type 0} (frames : S → List Stored) (gap : S → ℤ) (e : ℤ) (ts : List (Track S)) → AllByRecursion IsSound (states_of frames ts) → high_all frames ts ≤ℤ e → AllByRecursion (AllByRecursion (IsSpanWithin (pos 0) e)) (ranges_in frames gap ts)
+ranges_within frames gap e [] h k = tt
+ranges_within frames gap e (t ∷ ts) h k =
     let sound = h.0 in
-    (ranges_inside (pos 0) (pos (2 ^ 110)) (gap t.store) (frames t.store) (frames_within (frames t.store) sound.not_negative sound.timed), ranges_within frames gap ts h.1)
+    (ranges_inside (pos 0) e (gap t.store) (frames t.store) (frames_within e (frames t.store) sound.not_negative (left_below (high (frames t.store)) (high_all frames ts) e k)), ranges_within frames gap e ts h.1 (right_below (high (frames t.store)) (high_all frames ts) e k))
 
 starts_within : (a b : ℤ) (ss : List Span) → AllByRecursion (IsSpanWithin a b) ss → AllByRecursion (λ s. a ≤ℤ s.start) ss
 starts_within a b [] h = tt
@@ -114,9 +131,10 @@ starts_within a b (s ∷ ss) h = ((h.0).0, starts_within a b ss h.1)
 -- nothing that sound tracks share is before 0
 pub none_before_zero : {S : Type 0} (frames : S → List Stored) (gap : S → ℤ) (ended : Bool) (ts : List (Track S)) → AreSoundAndCountable (states_of frames ts) → HasNoneBefore (pos 0) (meet_of_all (with_common_end ended (ranges_in frames gap ts)))
 none_before_zero frames gap ended ts h =
-    let within = common_inside (pos 0) (pos (2 ^ 110)) ended (ranges_in frames gap ts) (ranges_within frames gap ts h.sound) in
-    let shared = shared_inside (pos 0) (pos (2 ^ 110)) (with_common_end ended (ranges_in frames gap ts)) within in
-    none_before_all (pos 0) (meet_of_all (with_common_end ended (ranges_in frames gap ts))) (starts_within (pos 0) (pos (2 ^ 110)) (meet_of_all (with_common_end ended (ranges_in frames gap ts))) shared)
+    let e = high_all frames ts in
+    let within = common_inside (pos 0) e ended (ranges_in frames gap ts) (ranges_within frames gap e ts h.sound (itself e)) in
+    let shared = shared_inside (pos 0) e (with_common_end ended (ranges_in frames gap ts)) within in
+    none_before_all (pos 0) (meet_of_all (with_common_end ended (ranges_in frames gap ts))) (starts_within (pos 0) e (meet_of_all (with_common_end ended (ranges_in frames gap ts))) shared)
 
 first_low : (e : ℤ) (o : Option Span) (ts : List ℤ) (last : Span) → o ≡ Some last → AllByRecursion (λ t. t ≤ℤ e) (option_to_list (option_map (λ (s : Span). s.end) o) ++ ts) → last.end ≤ℤ e
 first_low e None ts last is h = absurd cc

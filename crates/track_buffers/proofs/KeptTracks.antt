@@ -17,7 +17,7 @@ use Rattle.mse_base.specs.declared.track.Presentation.{Presentation}
 use Rattle.track_store.specs.declared.store.Stored.{Stored}
 use Rattle.track_store.specs.declared.tracks.Track.{Track}
 use Rattle.track_store.specs.Frames.{bytes_of}
-use Rattle.track_store.specs.Kept.{bytes_in, AreSoundAndCountable, AreEndedBy, HasSpareRoom, gaps_of}
+use Rattle.track_store.specs.Kept.{IsCountable, bytes_in, AreSoundAndCountable, AreEndedBy, HasSpareRoom, gaps_of}
 use Rattle.track_store.specs.Sound.{IsSound, AreTogether}
 use Rattle.track_store.specs.State.{TrackState, state_of, states_of}
 use Rattle.range_removal.specs.Rooms.{IsRoomKept}
@@ -34,14 +34,14 @@ together_needs None None None None need h = refl
 together_needs decode duration end first need h = absurd h
 
 unset_sound : (t : TrackState) → IsSound t → IsSound (unset_track t)
-unset_sound t h = record { count = h.count; chained = h.chained; ascending = h.ascending; below = h.below; not_negative = h.not_negative; timed = h.timed; last_held = λ e. cc; together = refl; group_below = tt; group_sync = tt }
+unset_sound t h = record { chained = h.chained; ascending = h.ascending; below = h.below; not_negative = h.not_negative; last_held = λ e. cc; together = refl; group_below = tt; group_sync = tt }
 
 new_sound : (u : TrackInfo) → IsSound (new_track u)
-new_sound u = record { count = omega arith; chained = tt; ascending = tt; below = tt; not_negative = tt; timed = tt; last_held = λ e. cc; together = refl; group_below = tt; group_sync = tt }
+new_sound u = record { chained = tt; ascending = tt; below = tt; not_negative = tt; last_held = λ e. cc; together = refl; group_below = tt; group_sync = tt }
 
 renewed_sound : (t : TrackState) (o : Option TrackInfo) → IsSound t → IsSound (track_with_partner t o)
 renewed_sound t None h = h
-renewed_sound t (Some u) h = record { count = h.count; chained = h.chained; ascending = h.ascending; below = h.below; not_negative = h.not_negative; timed = h.timed; last_held = λ e. cc; together = together_needs _ t.marks.last_duration _ _ t.marks.need_sync h.together; group_below = h.group_below; group_sync = h.group_sync }
+renewed_sound t (Some u) h = record { chained = h.chained; ascending = h.ascending; below = h.below; not_negative = h.not_negative; last_held = λ e. cc; together = together_needs _ t.marks.last_duration _ _ t.marks.need_sync h.together; group_below = h.group_below; group_sync = h.group_sync }
 
 -- steps that leave the frames of each track
 module _ (f : TrackState → TrackState) (frames : (t : TrackState) → (f t).frames ≡ t.frames) where
@@ -57,8 +57,12 @@ module _ (f : TrackState → TrackState) (frames : (t : TrackState) → (f t).fr
   sound-map sound [] h = tt
   sound-map sound (t ∷ ts) h = (sound t h.0, sound-map sound ts h.1)
 
-  kept-map : ((t : TrackState) → IsSound t → IsSound (f t)) → (ts : List TrackState) → AreSoundAndCountable ts → AreSoundAndCountable (map f ts)
-  kept-map sound ts h = record { sound = sound-map sound ts h.sound; small = subst (λ (n : ℕ). n < 2 ^ 62) (sym (bytes-map ts)) h.small }
+  counted-map : ((t : TrackState) → IsCountable t → IsCountable (f t)) → (ts : List TrackState) → AllByRecursion IsCountable ts → AllByRecursion IsCountable (map f ts)
+  counted-map counted [] h = tt
+  counted-map counted (t ∷ ts) h = (counted t h.0, counted-map counted ts h.1)
+
+  kept-map : ((t : TrackState) → IsSound t → IsSound (f t)) → ((t : TrackState) → IsCountable t → IsCountable (f t)) → (ts : List TrackState) → AreSoundAndCountable ts → AreSoundAndCountable (map f ts)
+  kept-map sound counted ts h = record { sound = sound-map sound ts h.sound; counted = counted-map counted ts h.counted; small = subst (λ (n : ℕ). n < 2 ^ 62) (sym (bytes-map ts)) h.small }
 
   endby-map : (limit : ℤ) (ts : List TrackState) → AreEndedBy limit ts → AreEndedBy limit (map f ts)
   endby-map limit [] h = tt
@@ -74,7 +78,7 @@ module _ (f : TrackState → TrackState) (frames : (t : TrackState) → (f t).fr
   ends-map Infinite ts h = h
 
 pub kept_unset : (ts : List TrackState) → AreSoundAndCountable ts → AreSoundAndCountable (map unset_track ts)
-kept_unset ts h = kept-map unset_track (λ t. refl) unset_sound ts h
+kept_unset ts h = kept-map unset_track (λ t. refl) unset_sound (λ t c. c) ts h
 
 pub ends_unset : (d : Moment) (ts : List TrackState) → AreEndedWithin d ts → AreEndedWithin d (map unset_track ts)
 ends_unset d ts h = ends-map unset_track (λ t. refl) d ts h
@@ -83,8 +87,12 @@ frames_renewed : (t : TrackState) (o : Option TrackInfo) → (track_with_partner
 frames_renewed t None = refl
 frames_renewed t (Some u) = refl
 
+counted_renewed : (t : TrackState) (o : Option TrackInfo) → IsCountable t → IsCountable (track_with_partner t o)
+counted_renewed t None h = h
+counted_renewed t (Some u) h = h
+
 pub kept_renewed : (news : List TrackInfo) (ts : List TrackState) → AreSoundAndCountable ts → AreSoundAndCountable (tracks_with_partners news ts)
-kept_renewed news ts h = kept-map (λ t. track_with_partner t (partner_of ts news t)) (λ t. frames_renewed t (partner_of ts news t)) (λ t s. renewed_sound t (partner_of ts news t) s) ts h
+kept_renewed news ts h = kept-map (λ t. track_with_partner t (partner_of ts news t)) (λ t. frames_renewed t (partner_of ts news t)) (λ t s. renewed_sound t (partner_of ts news t) s) (λ t c. counted_renewed t (partner_of ts news t) c) ts h
 
 pub ends_renewed : (news : List TrackInfo) (d : Moment) (ts : List TrackState) → AreEndedWithin d ts → AreEndedWithin d (tracks_with_partners news ts)
 ends_renewed news d ts h = ends-map (λ t. track_with_partner t (partner_of ts news t)) (λ t. frames_renewed t (partner_of ts news t)) d ts h
@@ -93,12 +101,16 @@ sound_new : (news : List TrackInfo) → AllByRecursion IsSound (map new_track ne
 sound_new [] = tt
 sound_new (u ∷ news) = (new_sound u, sound_new news)
 
+counted_new : (news : List TrackInfo) → AllByRecursion IsCountable (map new_track news)
+counted_new [] = tt
+counted_new (u ∷ news) = (omega arith, counted_new news)
+
 bytes_new : (news : List TrackInfo) → bytes_in (map new_track news) ≡ 0
 bytes_new [] = refl
 bytes_new (u ∷ news) = sum_by-cons (λ (t : TrackState). bytes_of t.frames) (new_track u) (map new_track news) ∙ ap (λ (n : ℕ). 0 + n) (bytes_new news)
 
 pub kept_new : (news : List TrackInfo) → AreSoundAndCountable (map new_track news)
-kept_new news = record { sound = sound_new news; small = let none = bytes_new news in omega arith }
+kept_new news = record { sound = sound_new news; counted = counted_new news; small = let none = bytes_new news in omega arith }
 
 empty_new : (news : List TrackInfo) → AllByRecursion (λ t. t.frames ≡ []) (map new_track news)
 empty_new [] = tt

@@ -9,9 +9,9 @@ use Rattle.mse_base.specs.Meets.{overlap, meet, meet_of_all, overlap_span, overl
 use Rattle.mse_base.specs.Moments.{greatest}
 use Rattle.track_buffers.specs.Buffered.{last_ends, with_end, with_common_end}
 use Rattle.track_buffers.specs.Extended.{span_up_to, last_up_to_end}
-use Rattle.track_buffers.proofs.Ranging.{grown_none}
+use Rattle.track_buffers.proofs.SharedRanges.{grown_none}
 use Rattle.track_buffers.proofs.Durations.{greatest_bounds, greatest_none}
-use Rattle.track_buffers.proofs.Extending.{last-with_end, last-with_last_end}
+use Rattle.track_buffers.proofs.LastRanges.{last-with_end, last-with_last_end}
 
 -- ---- the last of two lists
 

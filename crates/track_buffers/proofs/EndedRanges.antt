@@ -10,9 +10,9 @@ use Rattle.track_buffers.specs.Media.{Media}
 use Rattle.track_buffers.specs.Buffered.{last_ends, with_common_end, track_ranges, buffered_of}
 use Rattle.track_buffers.specs.Extended.{span_up_to, last_up_to_end, if_reaches, held_up_to, held_with_end, common_end}
 use Rattle.track_buffers.proofs.Durations.{greatest_bounds, greatest_none}
-use Rattle.track_buffers.proofs.Normalizing.{tracks_normalized}
-use Rattle.track_buffers.proofs.Extending.{find-common}
-use Rattle.track_buffers.proofs.Sharing.{IsEndedBy, split_ends, no_end, none_shared, last_lasts, last-common}
+use Rattle.track_buffers.proofs.NormalizedRanges.{tracks_normalized}
+use Rattle.track_buffers.proofs.LastRanges.{find-common}
+use Rattle.track_buffers.proofs.SharedEnds.{IsEndedBy, split_ends, no_end, none_shared, last_lasts, last-common}
 
 -- The buffered range that holds a time is an overlap of look-ups in the tracks.
 pub find-buffered : (t : ℤ) (ended : Bool) (m : Media) → pos 0 ≤ℤ m.gap → find (reaches t) (buffered_of ended m) ≡ overlap_of_all (map (λ r. held_with_end t (common_end ended (track_ranges m)) (last_of r) (find (reaches t) r)) (track_ranges m))

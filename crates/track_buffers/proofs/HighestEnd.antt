@@ -22,7 +22,7 @@ frames_left t (Some u) = refl
 abbrev media_with : List TrackInfo → Media → Media
 media_with news m = record { tracks = tracks_after news m.tracks; settings = m.settings; pending = false; gap = m.gap }
 
-taken_by : (o : Option MediaFault) (p : Presentation) (m n : Media) (b e : SourceEffect) → init_result_of o p m b ≡ Done n e → n ≡ media_with (media_tracks p) m
+pub taken_by : (o : Option MediaFault) (p : Presentation) (m n : Media) (b e : SourceEffect) → init_result_of o p m b ≡ Done n e → n ≡ media_with (media_tracks p) m
 taken_by (Some fault) p m n b e h = absurd cc
 taken_by None p m n b e h = sym (ap (media_in n) h)
   where

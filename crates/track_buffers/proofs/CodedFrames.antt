@@ -26,7 +26,7 @@ use Rattle.frame_rules.specs.Place.{Placement, new_placement, track_after_reset,
 use Rattle.track_buffers.specs.declared.effects.SourceEffect.{SourceEffect}
 use Rattle.track_buffers.specs.declared.effects.MediaFault.{MediaFault}
 use Rattle.track_buffers.specs.Media.{AreEndedWithin, no_effect, with_duration, AppendError}
-use Rattle.track_buffers.proofs.Keeping.{endby_none}
+use Rattle.track_buffers.proofs.KeptTracks.{endby_none}
 
 -- ---- after a fault all is as before
 

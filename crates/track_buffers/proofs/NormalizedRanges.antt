@@ -9,8 +9,8 @@ use Rattle.track_buffers.specs.Media.{Media, HasMediaInvariants}
 use Rattle.track_store.specs.Frames.{ranges_of}
 use Rattle.track_store.specs.State.{TrackState}
 use Rattle.track_buffers.specs.Buffered.{with_common_end, track_ranges, buffered_of}
-use Rattle.track_buffers.proofs.Ranging.{track_normalized, buffered_is}
-use Rattle.track_buffers.proofs.Extending.{common_normalized}
+use Rattle.track_buffers.proofs.SharedRanges.{track_normalized, buffered_is}
+use Rattle.track_buffers.proofs.LastRanges.{common_normalized}
 
 each_normalized : (gap : ℤ) (ts : List TrackState) → pos 0 ≤ℤ gap → AllByRecursion IsNormalized (map (λ t. ranges_of gap t.frames) ts)
 each_normalized gap [] low = tt

@@ -19,8 +19,8 @@ use Rattle.track_buffers.specs.Frames.{highest_end_in}
 use Rattle.track_buffers.specs.Buffered.{last_ends, with_last_end, with_end, with_common_end, track_ranges, buffered_of}
 use Rattle.track_buffers.specs.Extended.{IsSpanWithin}
 use Rattle.track_buffers.proofs.Durations.{highest_bounds, highest_none}
-use Rattle.track_buffers.proofs.Ranging.{grown_none}
-use Rattle.track_buffers.proofs.Sharing.{IsEndedBy}
+use Rattle.track_buffers.proofs.SharedRanges.{grown_none}
+use Rattle.track_buffers.proofs.SharedEnds.{IsEndedBy}
 
 -- ---- ranges of frames
 
