@@ -1,7 +1,9 @@
-pub mod Standing
+pub mod KeptBuffers
 pub mod ItemsNext
-pub mod Stepping
-pub mod Leaving
-pub mod Typing
-pub mod Receiving
-pub mod Refusing
+pub mod AppendSteps
+pub mod StepsLeft
+pub mod TypeChanges
+pub mod InitRanges
+pub mod Refusals
+mod TrackNumbers
+mod FrameTracks

@@ -8,7 +8,6 @@ use Rattle.mse_types.specs.declared.answer.Container.{Container}
 use Rattle.mse_types.specs.declared.answer.Container.TheVariants.{Mp4, Adts}
 use Rattle.mse_types.specs.declared.answer.TypeAnswer.{TypeAnswer}
 use Rattle.mse_types.specs.declared.answer.TypeAnswer.TheVariants.{Supported, Empty, Unsupported}
-use Rattle.mse_types.specs.Texts.{type_of}
 use Rattle.mse_calls.specs.declared.answers.Name.{Name}
 use Rattle.mse_calls.specs.declared.answers.Name.TheVariants.{InvalidState, NotSupported, QuotaExceeded, TypeError}
 use Rattle.mse_calls.specs.declared.calls.Mode.{Mode}
@@ -26,7 +25,7 @@ use Rattle.track_buffers.specs.Buffered.{buffered_of}
 use Rattle.track_buffers.specs.Views.{track_views_of}
 use Rattle.buffer_state.specs.declared.running.Running.TheVariants.{Removal}
 use Rattle.buffer_state.specs.State.{Feed, Content, Surroundings, AppendInput, is_updating, is_appending, is_removing, feed_running, idle_feed, feed_with, new_feed, phase_in, ready_in}
-use Rattle.buffer_state.specs.Replies.{CallResult, refused_result, result_with, event_reply, effect_reply, events_first_reply}
+use Rattle.buffer_state.specs.Replies.{CallResult, refused_result, result_with, event_reply, effect_reply}
 
 abbrev pub is_in_media : Phase → Bool
 is_in_media Waiting = false
@@ -58,38 +57,25 @@ abbrev pub settings_result : Bool → Media → Surroundings → Feed → Conten
 settings_result reopened m a f c =
     result_with (event_reply reopened a.duration []) f (with_media m c)
 
--- a media segment has begun; where the source is ended it is opened again before this is looked at
-abbrev pub phase_refusal : Surroundings → Feed → Option Name
-phase_refusal a f =
-    if is_in_media (phase_in f) then (if is_ended a.ready then None else Some InvalidState)
-    else None
-
--- an ended source is opened again, and in a media segment that is all
+-- an ended source is opened again; then, in the middle of a media segment, the call is refused
 abbrev pub settings_result_by_phase : Media → Surroundings → Feed → Content → CallResult
 settings_result_by_phase m a f c =
     if is_in_media (phase_in f) then refused_result InvalidState (is_ended a.ready) a f c
     else settings_result (is_ended a.ready) m a f c
 
 -- mode, on setting
-abbrev pub mode_refusal : Mode → Surroundings → Feed → Content → Option Name
-mode_refusal mode a f c =
-    if is_updating f.running then Some InvalidState
-    else (if c.media.settings.generate && not (is_sequence mode) then Some TypeError
-    else phase_refusal a f)
-
 abbrev pub mode_result : Mode → Surroundings → Feed → Content → CallResult
 mode_result mode a f c =
-    unless_refused (mode_refusal mode a f c)
-    (settings_result_by_phase (with_mode (is_sequence mode) c.media) a f c) a f c
+    if is_updating f.running then refused_result InvalidState false a f c
+    else (if c.media.settings.generate && not (is_sequence mode)
+    then refused_result TypeError false a f c
+    else settings_result_by_phase (with_mode (is_sequence mode) c.media) a f c)
 
 -- timestampOffset, on setting
-abbrev pub offset_refusal : Surroundings → Feed → Option Name
-offset_refusal a f = if is_updating f.running then Some InvalidState else phase_refusal a f
-
 abbrev pub offset_result : ℤ → Surroundings → Feed → Content → CallResult
 offset_result t a f c =
-    unless_refused (offset_refusal a f) (settings_result_by_phase (with_offset t c.media) a f c) a f
-    c
+    if is_updating f.running then refused_result InvalidState false a f c
+    else settings_result_by_phase (with_offset t c.media) a f c
 
 -- appendWindowStart, on setting: neither negative nor at or after the end of the window
 abbrev pub window_start_refusal : ℤ → Feed → Content → Option Name
@@ -171,7 +157,7 @@ abort_events false = []
 -- abort: the frames that are ready are processed in the append window as it was, and the window is reset last
 abbrev pub abort_result_after_flush : FlushResult → Surroundings → Feed → Content → CallResult
 abort_result_after_flush done a f c =
-    result_with (events_first_reply (abort_events (is_appending f.running)) done.effect)
+    result_with (effect_reply false done.effect (abort_events (is_appending f.running)))
     (new_feed f.reading.container c.latest)
     (with_media (with_whole_window (media_after_reset done.media)) c)
 
@@ -203,9 +189,6 @@ change_type_refusal_by_answer Unsupported f =
 change_type_refusal_by_answer (Supported container) f =
     if is_updating f.running then Some InvalidState else None
 
-abbrev pub change_type_refusal : List ℕ → Feed → Option Name
-change_type_refusal text f = change_type_refusal_by_answer (type_of text) f
-
 abbrev pub change_type_result_by_answer : TypeAnswer → Surroundings → Feed → Content → CallResult
 change_type_result_by_answer Empty a f c = refused_result TypeError false a f c
 change_type_result_by_answer Unsupported a f c =
@@ -214,9 +197,6 @@ change_type_result_by_answer Unsupported a f c =
 change_type_result_by_answer (Supported container) a f c =
     if is_updating f.running then refused_result InvalidState false a f c
     else change_type_result_after_flush container (flush_result (ready_in f) c.media a.duration) a
-
-abbrev pub change_type_result : List ℕ → Surroundings → Feed → Content → CallResult
-change_type_result text a f c = change_type_result_by_answer (type_of text) a f c
 
 -- ---- the end of running work (2.2, removeSourceBuffer, step 2)
 

@@ -5,3 +5,5 @@ pub mod Turns
 pub mod Calls
 pub mod Steps
 pub mod StepsLeft
+pub mod AllCalls
+pub mod Finding

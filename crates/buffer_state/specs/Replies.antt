@@ -1,6 +1,7 @@
 -- What a call or a turn answers, and the state behind it.
-use Rattle.std.specs.Prelude.{◌≡◌, ℕ, Bool, true, false, List, [], ◌∷◌, Option, Some, None, Result, IfOk, if◌then◌else◌}
+use Rattle.std.specs.Prelude.{◌≡◌, ℕ, ◌≤◌, Bool, true, false, List, [], ◌∷◌, Option, Some, None, Result, IfOk, if◌then◌else◌}
 use Rattle.mse_base.specs.declared.ticks.Moment.{Moment}
+use Rattle.mse_base.specs.Moments.{IsNotAfter}
 use Rattle.mse_calls.specs.declared.answers.Name.{Name}
 use Rattle.mse_calls.specs.declared.events.EventKind.{EventKind}
 use Rattle.mse_calls.specs.declared.events.EventKind.TheVariants.{Error, UpdateEnd}
@@ -25,7 +26,6 @@ abbrev pub refused_reply : Name → Bool → Moment → Reply
 refused_reply name reopened duration = record {
   refused = Some name;
   reopened = reopened;
-  events_first = false;
   duration_changes = 0;
   duration = duration;
   activated = false;
@@ -34,12 +34,15 @@ refused_reply name reopened duration = record {
   events = [];
 }
 
--- what comes of a call or a turn at the source, and behind it the events at the buffer
+-- the name of a refusal behind which nothing came: the source was not opened again before it
+abbrev pub early_refusal : Reply → Option Name
+early_refusal reply = if reply.reopened then None else reply.refused
+
+-- what comes of a call or a turn at the source, and the events at the buffer
 abbrev pub effect_reply : Bool → SourceEffect → List EventKind → Reply
 effect_reply reopened e events = record {
   refused = None;
   reopened = reopened;
-  events_first = false;
   duration_changes = e.duration_changes;
   duration = e.duration;
   activated = e.activated;
@@ -51,10 +54,6 @@ effect_reply reopened e events = record {
 -- events at the buffer alone
 abbrev pub event_reply : Bool → Moment → List EventKind → Reply
 event_reply reopened duration events = effect_reply reopened (no_effect duration) events
-
--- events at the buffer, and behind them what comes of it at the source
-abbrev pub events_first_reply : List EventKind → SourceEffect → Reply
-events_first_reply events e = record (effect_reply false e events) { events_first = true }
 
 -- an append error (3.5.3): its events at the buffer, and the end of the source with a decode error
 abbrev pub error_reply : FaultView → SourceEffect → Reply
@@ -88,18 +87,21 @@ abbrev pub IsBufferAnswerIfOk : {E : Type 0} → KeptBuffer → Result Reply E �
 IsBufferAnswerIfOk old result new call =
     (f : Feed) (c : Content) → Stands old f c → IfOk result (λ reply. IsResult reply new (call f c))
 
--- the names are those by which a call is refused before anything comes of it
-abbrev pub AreRefusalsTold : (Surroundings → Feed → Content → Option Name)
-    → (Surroundings → Feed → Content → CallResult) → Type 0
-AreRefusalsTold refusal call =
-    (a : Surroundings) (f : Feed) (c : Content) (name : Name)
-    → (refusal a f c ≡ Some name → call a f c ≡ refused_result name false a f c)
-    × (call a f c ≡ refused_result name false a f c → refusal a f c ≡ Some name)
-
 -- where each stored frame ended within the duration, each does so within the duration that is replied
 abbrev pub IsStillWithin : Moment → Media → Reply → Media → Type 0
 IsStillWithin duration old reply new =
     AreEndedWithin duration old.tracks → AreEndedWithin reply.duration new.tracks
+
+-- A call is done that changes the duration at most so often: it answered what is meant, the duration did not fall, and
+-- no initialization segment was received. All but the first is also told where no feed and content are named.
+pub record IsDone (meant : Feed → Content → CallResult) (most : ℕ) (duration : Moment)
+    (old : KeptBuffer) (reply : Reply) (new : KeptBuffer) : Type 0 where
+  pub answered : IsBufferAnswer old reply new meant
+  pub within_duration : IsStillWithin duration old.media reply new.media
+  pub changes : reply.duration_changes ≤ most
+  pub unchanged : most ≡ 0 → reply.duration ≡ duration
+  pub no_fall : IsNotAfter duration reply.duration
+  pub no_init : reply.received_init ≡ false
 
 -- where an initialization segment was received, the buffered ranges are as before; there are none where it was the first
 abbrev pub HasRangesAfterInit : Media → Reply → Media → Type 0

@@ -11,7 +11,7 @@ use Rattle.byte_stream.specs.Readings as reading
 use Rattle.byte_stream.specs.Streams.{StreamView, latest_of}
 use Rattle.byte_stream.specs.Streams as byte_stream
 use Rattle.track_buffers.specs.Media.{Media}
-use Rattle.buffer_state.specs.declared.around.Around.{Around}
+use Rattle.buffer_state.specs.declared.buffer_context.BufferContext.{BufferContext}
 use Rattle.buffer_state.specs.declared.running.Running.{Running}
 use Rattle.buffer_state.specs.declared.running.Running.TheVariants.{Nothing, Append, Removal}
 
@@ -33,7 +33,7 @@ pub record Surroundings : Type 0 where
   pub error : Bool
   pub duration : Moment
 
-abbrev pub surroundings : Around → Surroundings
+abbrev pub surroundings : BufferContext → Surroundings
 surroundings a = record {
   number = a.number;
   ready = a.ready;
@@ -47,7 +47,7 @@ pub record AppendInput : Type 0 where
   pub position : ℤ
   pub quota : ℕ
 
-abbrev pub append_input : List ℕ → Around → AppendInput
+abbrev pub append_input : List ℕ → BufferContext → AppendInput
 append_input bytes a = record { bytes = bytes; position = a.position; quota = a.quota }
 
 -- ---- what the code keeps

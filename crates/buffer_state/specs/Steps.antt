@@ -1,4 +1,4 @@
--- What the code does in one step of an append, in parts.
+-- A device of the proof, which no public clause needs: what the code does in one step of an append, in parts.
 use Rattle.std.specs.Prelude.{◌≡◌, ℕ, ◌≤◌, true, false, [], length, Option, Some, None}
 use Rattle.mse_base.specs.declared.frame.CodedFrame.{CodedFrame}
 use Rattle.mse_base.specs.declared.ticks.Moment.{Moment}

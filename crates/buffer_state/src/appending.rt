@@ -5,10 +5,12 @@ ghost use Rattle.mse_calls.specs.Ready.{is_ended};
 ghost use Rattle.track_buffers.specs.Media.{AreEndedWithin};
 ghost use Rattle.track_buffers.specs.Frames.{media_after_eviction, used_in};
 ghost use Rattle.buffer_state.specs.State.{Feed, kept_buffer, surroundings, append_input};
-ghost use Rattle.buffer_state.specs.Replies.{IsBufferAnswer, IsBufferAnswerIfOk, IsStillWithin, refused_reply};
-ghost use Rattle.buffer_state.specs.Calls.{append_result_after_eviction, append_refusal, append_result};
+ghost use Rattle.buffer_state.specs.Replies.{IsDone, refused_reply};
+ghost use Rattle.buffer_state.specs.Calls.{append_result_after_eviction, append_refusal};
+ghost use Rattle.buffer_state.specs.AllCalls.{IsCallDone};
+ghost use Rattle.buffer_state.specs.AllCalls as calls;
 
-use crate::around::Around;
+use crate::buffer_context::BufferContext;
 use crate::reply::{Reply, event_reply, one};
 use crate::running::Running;
 use byte_stream::ByteStream;
@@ -28,7 +30,11 @@ fn is_too_long(len: u64, more: usize) -> bool
 }
 
 /// Coded frame eviction for an append. It tells how many bytes are stored after it.
-fn evict<S: FrameStore>(media: &mut TrackBuffers<S>, new_bytes: usize, around: &Around) -> u64
+fn evict<S: FrameStore>(
+    media: &mut TrackBuffers<S>,
+    new_bytes: usize,
+    around: &BufferContext,
+) -> u64
     ensures media { media.new.media
         ≡ media_after_eviction around.now.position new_bytes around.now.quota around.now.duration
         media.old.media }
@@ -41,7 +47,7 @@ fn evict<S: FrameStore>(media: &mut TrackBuffers<S>, new_bytes: usize, around: &
     media.used()
 }
 
-fn refuse_full(around: &Around) -> Reply
+fn refuse_full(around: &BufferContext) -> Reply
     ensures { result ≡ refused_reply Name.QuotaExceeded (is_ended around.now.ready)
         around.now.duration }
 {
@@ -58,19 +64,14 @@ fn accept_or_decline<S: FrameStore>(
     media: &mut TrackBuffers<S>,
     running: &mut Running,
     bytes: &Bytes,
-    around: &Around,
+    around: &BufferContext,
 ) -> Reply
     requires offered { stream.old.offered ≡ Some bytes.now }
     requires countable { nat_le (2 ^ 62) (stream.old.fed + length bytes.now) ≡ false }
-    ensures answered { IsBufferAnswer (kept_buffer stream.old media.old.media running.old) result
-        (kept_buffer stream.new media.new.media running.new)
-        (append_result_after_eviction (append_input bytes.now around.now)
-        (surroundings around.now)) }
-    ensures within_duration { IsStillWithin around.now.duration media.old.media result
-        media.new.media }
-    ensures changes { result.duration_changes ≡ 0 }
-    ensures duration { result.duration ≡ around.now.duration }
-    ensures no_init { result.received_init ≡ false }
+    ensures done { IsDone (append_result_after_eviction (append_input bytes.now around.now)
+        (surroundings around.now)) 0 around.now.duration
+        (kept_buffer stream.old media.old.media running.old) result
+        (kept_buffer stream.new media.new.media running.new) }
     ensures none_offered { stream.new.offered ≡ None }
 {
     let used_bytes = evict(media, bytes.len(), around);
@@ -85,7 +86,7 @@ fn accept_or_decline<S: FrameStore>(
 }
 
 /// The refusal of an append before coded frames are evicted.
-pub(crate) fn append_refusal(running: &Running, around: &Around) -> Option<Name>
+pub(crate) fn append_refusal(running: &Running, around: &BufferContext) -> Option<Name>
     ensures { (f : Feed) → running.now ≡ f.running
         → result ≡ append_refusal (surroundings around.now) f }
 {
@@ -102,18 +103,13 @@ pub(crate) fn append<S: FrameStore>(
     media: &mut TrackBuffers<S>,
     running: &mut Running,
     bytes: &Bytes,
-    around: &Around,
+    around: &BufferContext,
 ) -> Result<Reply, OutOfMemory>
     requires { stream.old.offered ≡ None }
-    ensures answered { IsBufferAnswerIfOk
-        (kept_buffer stream.old media.old.media running.old) result
-        (kept_buffer stream.new media.new.media running.new)
-        (append_result (append_input bytes.now around.now) (surroundings around.now)) }
-    ensures within_duration { IfOk result
-        (λ reply. IsStillWithin around.now.duration media.old.media reply media.new.media) }
-    ensures changes { IfOk result (λ reply. reply.duration_changes ≡ 0) }
-    ensures duration { IfOk result (λ reply. reply.duration ≡ around.now.duration) }
-    ensures no_init { IfOk result (λ reply. reply.received_init ≡ false) }
+    ensures done { IfOk result (λ reply. IsCallDone
+        (calls.Append (Some (append_input bytes.now around.now))) (surroundings around.now)
+        (kept_buffer stream.old media.old.media running.old) reply
+        (kept_buffer stream.new media.new.media running.new)) }
     ensures none_offered { stream.new.offered ≡ None }
     ensures err { OnErr result (kept_buffer stream.new media.new.media running.new
         ≡ kept_buffer stream.old media.old.media running.old) }

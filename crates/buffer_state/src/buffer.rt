@@ -1,29 +1,36 @@
-ghost use Rattle.std.specs.Prelude.{◌≡◌, ◌≢◌, ◌<◌, ◌≤◌, ◌^◌, ℤ, pos, ◌≤ℤ◌, false, not, find, length, Option, None, IfOk, OnErr};
+ghost use Rattle.std.specs.Prelude.{◌≡◌, ◌≢◌, ◌<◌, ◌≤◌, ◌^◌, ℤ, pos, ◌≤ℤ◌, not, find, length, Option, Some, None, IfOk, OnErr};
 ghost use Rattle.std.specs.List.{AllByRecursion};
 ghost use Rattle.mse_base.specs.declared.ticks.Moment.{Moment};
+ghost use Rattle.mse_base.specs.Moments.{IsNotAfter};
 ghost use Rattle.mse_base.specs.Spans.{first_of, last_of, reaches};
+ghost use Rattle.mse_types.specs.Texts.{type_of};
 ghost use Rattle.track_store.specs.Kept.{AreSoundAndCountable};
 ghost use Rattle.track_store.specs.Sound.{IsSound};
 ghost use Rattle.track_store.specs.State.{states_of};
 ghost use Rattle.track_buffers.specs.Settings.{new_media};
-ghost use Rattle.track_buffers.specs.Media.{is_awaiting_first, IsNotAfter};
+ghost use Rattle.track_buffers.specs.Media.{is_awaiting_first};
 ghost use Rattle.track_buffers.specs.Frames.{used_in, highest_start_in, highest_end_in};
 ghost use Rattle.track_buffers.specs.Buffered.{buffered_of};
-ghost use Rattle.buffer_state.specs.State.{Feed, Content, KeptBuffer, Stands, surroundings, append_input, new_feed, phase_in, ready_in, is_updating, is_appending, is_removing};
-ghost use Rattle.buffer_state.specs.Replies.{IsBufferAnswer, IsBufferAnswerIfOk, IsStillWithin, HasRangesAfterInit, IsTurnIfOk, IfDid, changes_of};
+ghost use Rattle.buffer_state.specs.State.{Feed, Content, KeptBuffer, Stands, Surroundings, surroundings, AppendInput, append_input, new_feed, phase_in, ready_in, is_updating, is_appending, is_removing};
+ghost use Rattle.buffer_state.specs.Replies.{IsDone, IsStillWithin, HasRangesAfterInit, IsTurnIfOk, IfDid, changes_of};
 ghost use Rattle.buffer_state.specs.Turns.{turn_result};
-ghost use Rattle.buffer_state.specs.Calls.{has_generated_timestamps, mode_refusal, mode_result, offset_refusal, offset_result, window_start_refusal, window_start_result, window_end_refusal, window_end_result, remove_refusal, remove_result, append_refusal, append_result, abort_refusal, abort_result, change_type_refusal, change_type_result, end_work_result, buffer_view};
+ghost use Rattle.buffer_state.specs.Calls.{has_generated_timestamps, end_work_result, buffer_view};
+ghost use Rattle.buffer_state.specs.declared.buffer_context.BufferContext.{BufferContext};
+ghost use Rattle.buffer_state.specs.AllCalls.{call_at, most_changes, IsCallDone, IsRefusal};
+ghost use Rattle.buffer_state.specs.AllCalls as calls;
 ghost use Rattle.buffer_state.specs.StepsLeft.{IsFewer, IsIdle};
 ghost use Rattle.byte_stream.specs.Readings.{held_at};
 ghost use Rattle.byte_stream.specs.Streams.{HasReading, ready_of};
 
-use crate::around::Around;
+use crate::buffer_context::BufferContext;
+use crate::call::BufferCall;
 use crate::reply::{Reply, Turned, event_reply};
 use crate::running::Running;
 use crate::{appending, removal, resets, settings_calls, turns};
 use byte_stream::{ByteStream, Container};
 use mse_base::{Bytes, Moment, OutOfMemory, Phase, Ranges, Span, Ticks};
 use mse_calls::{BufferView, Mode, Name, TimeRanges};
+use mse_types::read_type;
 use std::alloc::Global;
 use std::marker::Model;
 use track_buffers::TrackBuffers;
@@ -71,14 +78,9 @@ impl<S: FrameStore> Buffer<S> {
     /// InvalidState where an append or a removal runs; TypeError where
     /// timestamps are generated and the mode is "segments"; and, after an ended source is opened
     /// again, InvalidState where the segment parser loop is in a media segment.
-    pub fn set_mode(&mut self, mode: Mode, around: &Around) -> Reply
-        ensures answered { IsBufferAnswer self.old result self.new
-            (mode_result mode (surroundings around.now)) }
-        ensures within_duration { IsStillWithin around.now.duration self.old.media result
-            self.new.media }
-        ensures changes { result.duration_changes ≡ 0 }
-        ensures duration { result.duration ≡ around.now.duration }
-        ensures no_init { result.received_init ≡ false }
+    pub fn set_mode(&mut self, mode: Mode, around: &BufferContext) -> Reply
+        ensures { IsCallDone (calls.SetMode mode) (surroundings around.now) self.old result
+            self.new }
     {
         settings_calls::set_mode(&self.stream, &mut self.media, &self.running, mode, around)
     }
@@ -88,14 +90,9 @@ impl<S: FrameStore> Buffer<S> {
     ///
     /// InvalidState where an append or a removal runs; and, after an ended
     /// source is opened again, InvalidState where the segment parser loop is in a media segment.
-    pub fn set_offset(&mut self, t: Ticks, around: &Around) -> Reply
-        ensures answered { IsBufferAnswer self.old result self.new
-            (offset_result t (surroundings around.now)) }
-        ensures within_duration { IsStillWithin around.now.duration self.old.media result
-            self.new.media }
-        ensures changes { result.duration_changes ≡ 0 }
-        ensures duration { result.duration ≡ around.now.duration }
-        ensures no_init { result.received_init ≡ false }
+    pub fn set_offset(&mut self, t: Ticks, around: &BufferContext) -> Reply
+        ensures { IsCallDone (calls.SetOffset (Moment.At t)) (surroundings around.now) self.old
+            result self.new }
     {
         settings_calls::set_offset(&self.stream, &mut self.media, &self.running, t, around)
     }
@@ -105,14 +102,9 @@ impl<S: FrameStore> Buffer<S> {
     ///
     /// InvalidState where an append or a removal runs; TypeError where the
     /// start is negative, or at or after the end of the window.
-    pub fn set_window_start(&mut self, t: Ticks, around: &Around) -> Reply
-        ensures answered { IsBufferAnswer self.old result self.new
-            (window_start_result t (surroundings around.now)) }
-        ensures within_duration { IsStillWithin around.now.duration self.old.media result
-            self.new.media }
-        ensures changes { result.duration_changes ≡ 0 }
-        ensures duration { result.duration ≡ around.now.duration }
-        ensures no_init { result.received_init ≡ false }
+    pub fn set_window_start(&mut self, t: Ticks, around: &BufferContext) -> Reply
+        ensures { IsCallDone (calls.SetWindowStart (Moment.At t)) (surroundings around.now) self.old
+            result self.new }
     {
         settings_calls::set_window_start(&self.stream, &mut self.media, &self.running, t, around)
     }
@@ -122,14 +114,9 @@ impl<S: FrameStore> Buffer<S> {
     ///
     /// InvalidState where an append or a removal runs; TypeError where the
     /// end is NaN, or at or before the start of the window.
-    pub fn set_window_end(&mut self, t: Moment, around: &Around) -> Reply
-        ensures answered { IsBufferAnswer self.old result self.new
-            (window_end_result t (surroundings around.now)) }
-        ensures within_duration { IsStillWithin around.now.duration self.old.media result
-            self.new.media }
-        ensures changes { result.duration_changes ≡ 0 }
-        ensures duration { result.duration ≡ around.now.duration }
-        ensures no_init { result.received_init ≡ false }
+    pub fn set_window_end(&mut self, t: Moment, around: &BufferContext) -> Reply
+        ensures { IsCallDone (calls.SetWindowEnd t) (surroundings around.now) self.old result
+            self.new }
     {
         settings_calls::set_window_end(&self.stream, &mut self.media, &self.running, t, around)
     }
@@ -140,14 +127,9 @@ impl<S: FrameStore> Buffer<S> {
     /// InvalidState where an append or a removal runs; TypeError where the
     /// duration is NaN, where `start` is negative or later than the duration, or where `end` is NaN,
     /// or at or before `start`.
-    pub fn remove(&mut self, start: Ticks, end: Moment, around: &Around) -> Reply
-        ensures answered { IsBufferAnswer self.old result self.new
-            (remove_result start end (surroundings around.now)) }
-        ensures within_duration { IsStillWithin around.now.duration self.old.media result
-            self.new.media }
-        ensures changes { result.duration_changes ≡ 0 }
-        ensures duration { result.duration ≡ around.now.duration }
-        ensures no_init { result.received_init ≡ false }
+    pub fn remove(&mut self, start: Ticks, end: Moment, around: &BufferContext) -> Reply
+        ensures { IsCallDone (calls.Remove (Moment.At start) end) (surroundings around.now) self.old
+            result self.new }
     {
         removal::remove(&mut self.running, start, end, around)
     }
@@ -159,14 +141,10 @@ impl<S: FrameStore> Buffer<S> {
     /// ended source is opened again and coded frames are evicted (3.5.4), also where the append is
     /// then refused: QuotaExceeded where, after eviction, the stored frames have as many bytes as
     /// the quota or more, or where the bytes appended since the last reset would be `2^62` or more.
-    pub fn append(&mut self, bytes: &Bytes, around: &Around) -> Result<Reply, OutOfMemory>
-        ensures answered { IsBufferAnswerIfOk self.old result self.new
-            (append_result (append_input bytes.now around.now) (surroundings around.now)) }
-        ensures within_duration { IfOk result
-            (λ reply. IsStillWithin around.now.duration self.old.media reply self.new.media) }
-        ensures changes { IfOk result (λ reply. reply.duration_changes ≡ 0) }
-        ensures duration { IfOk result (λ reply. reply.duration ≡ around.now.duration) }
-        ensures no_init { IfOk result (λ reply. reply.received_init ≡ false) }
+    pub fn append(&mut self, bytes: &Bytes, around: &BufferContext) -> Result<Reply, OutOfMemory>
+        ensures done { IfOk result (λ reply. IsCallDone
+            (calls.Append (Some (append_input bytes.now around.now))) (surroundings around.now)
+            self.old reply self.new) }
         ensures err { OnErr result (self.new ≡ self.old) }
     {
         appending::append(
@@ -183,15 +161,9 @@ impl<S: FrameStore> Buffer<S> {
     /// from 0 on and without an end. It takes its memory first; an `Err` changes nothing.
     ///
     /// InvalidState where the source is not open, or where a removal runs.
-    pub fn abort(&mut self, around: &Around) -> Result<Reply, OutOfMemory>
-        ensures answered { IsBufferAnswerIfOk self.old result self.new
-            (abort_result (surroundings around.now)) }
-        ensures within_duration { IfOk result
-            (λ reply. IsStillWithin around.now.duration self.old.media reply self.new.media) }
-        ensures changes { IfOk result
-            (λ reply. reply.duration_changes ≤ ready_of self.old.stream) }
-        ensures no_fall { IfOk result (λ reply. IsNotAfter around.now.duration reply.duration) }
-        ensures no_init { IfOk result (λ reply. reply.received_init ≡ false) }
+    pub fn abort(&mut self, around: &BufferContext) -> Result<Reply, OutOfMemory>
+        ensures done { IfOk result (λ reply.
+            IsCallDone calls.Abort (surroundings around.now) self.old reply self.new) }
         ensures err { OnErr result (self.new ≡ self.old) }
     {
         resets::abort(
@@ -211,37 +183,91 @@ impl<S: FrameStore> Buffer<S> {
     ///
     /// TypeError where the type is empty; InvalidState where an append or a removal runs;
     /// NotSupported where the type is not supported.
-    pub fn change_type(&mut self, text: &str, around: &Around) -> Result<Reply, OutOfMemory>
-        ensures answered { IsBufferAnswerIfOk self.old result self.new
-            (change_type_result text.now (surroundings around.now)) }
-        ensures within_duration { IfOk result
-            (λ reply. IsStillWithin around.now.duration self.old.media reply self.new.media) }
-        ensures changes { IfOk result
-            (λ reply. reply.duration_changes ≤ ready_of self.old.stream) }
-        ensures no_fall { IfOk result (λ reply. IsNotAfter around.now.duration reply.duration) }
-        ensures no_init { IfOk result (λ reply. reply.received_init ≡ false) }
+    pub fn change_type(&mut self, text: &str, around: &BufferContext) -> Result<Reply, OutOfMemory>
+        ensures done { IfOk result (λ reply. IsCallDone (calls.ChangeType (type_of text.now))
+            (surroundings around.now) self.old reply self.new) }
         ensures err { OnErr result (self.new ≡ self.old) }
     {
-        resets::change_type(
-            self.alloc,
-            &mut self.stream,
-            &mut self.media,
-            &self.running,
-            text,
-            around,
-        )
+        self.call(&BufferCall::ChangeType(read_type(text)), around)
+    }
+
+    /// Makes a call. It takes its memory first; an `Err` changes nothing.
+    pub fn call(&mut self, call: &BufferCall, around: &BufferContext) -> Result<Reply, OutOfMemory>
+        ensures done { IfOk result (λ reply. IsCallDone (call_at around.now call.now)
+            (surroundings around.now) self.old reply self.new) }
+        ensures err { OnErr result (self.new ≡ self.old) }
+    {
+        match *call {
+            BufferCall::SetMode(mode) => Ok(self.set_mode(mode, around)),
+            BufferCall::SetOffset(Moment::At(t)) => Ok(self.set_offset(t, around)),
+            BufferCall::SetWindowStart(Moment::At(t)) => Ok(self.set_window_start(t, around)),
+            BufferCall::SetWindowEnd(t) => Ok(self.set_window_end(t, around)),
+            BufferCall::Remove(Moment::At(start), end) => Ok(self.remove(start, end, around)),
+            BufferCall::Append(Some(bytes)) => self.append(bytes, around),
+            BufferCall::Abort => self.abort(around),
+            BufferCall::ChangeType(answer) => resets::change_type(
+                self.alloc,
+                &mut self.stream,
+                &mut self.media,
+                &self.running,
+                answer,
+                around,
+            ),
+            BufferCall::SetOffset(Moment::Nan | Moment::Infinite)
+            | BufferCall::SetWindowStart(Moment::Nan | Moment::Infinite)
+            | BufferCall::Remove(Moment::Nan | Moment::Infinite, _) => {
+                Ok(Reply::refused(Name::TypeError, false, &around.duration))
+            }
+            BufferCall::Append(None) => {
+                Ok(Reply::refused(Name::NoSuchBytes, false, &around.duration))
+            }
+        }
+    }
+
+    /// The name by which [`call`](Self::call) would be refused before anything comes of it, if it
+    /// would. It takes no memory.
+    pub fn refusal_of(&self, call: &BufferCall, around: &BufferContext) -> Option<Name>
+        ensures { IsRefusal (call_at around.now call.now) (surroundings around.now) self.now
+            result }
+    {
+        match *call {
+            BufferCall::SetMode(mode) => self.mode_refusal(mode, around),
+            BufferCall::SetOffset(Moment::At(_)) => self.offset_refusal(around),
+            BufferCall::SetWindowStart(Moment::At(t)) => self.window_start_refusal(t),
+            BufferCall::SetWindowEnd(t) => self.window_end_refusal(t),
+            BufferCall::Remove(Moment::At(start), end) => self.remove_refusal(start, end, around),
+            BufferCall::Append(Some(_)) => self.append_refusal(around),
+            BufferCall::Abort => self.abort_refusal(around),
+            BufferCall::ChangeType(answer) => resets::change_type_refusal(&self.running, answer),
+            BufferCall::SetOffset(Moment::Nan | Moment::Infinite)
+            | BufferCall::SetWindowStart(Moment::Nan | Moment::Infinite)
+            | BufferCall::Remove(Moment::Nan | Moment::Infinite, _) => Some(Name::TypeError),
+            BufferCall::Append(None) => Some(Name::NoSuchBytes),
+        }
+    }
+
+    /// How often a call changes the duration at most: a reset of the parser once for each coded
+    /// frame that is ready, of which there are at most `2^20`.
+    pub fn most_changes(&self, call: &BufferCall) -> usize
+        ensures most { (a : BufferContext) → result ≡ most_changes (call_at a call.now) self.now }
+        ensures few { result ≤ 2 ^ 20 }
+    {
+        match call {
+            BufferCall::Abort | BufferCall::ChangeType(_) => self.ready_frames(),
+            BufferCall::SetMode(_)
+            | BufferCall::SetOffset(_)
+            | BufferCall::SetWindowStart(_)
+            | BufferCall::SetWindowEnd(_)
+            | BufferCall::Remove(_, _)
+            | BufferCall::Append(_) => 0,
+        }
     }
 
     /// Ends running work, as when the buffer is removed from the list of source buffers. It tells
     /// the events that are fired at the buffer.
-    pub fn end_work(&mut self, around: &Around) -> Reply
-        ensures answered { IsBufferAnswer self.old result self.new
-            (end_work_result (surroundings around.now)) }
-        ensures within_duration { IsStillWithin around.now.duration self.old.media result
-            self.new.media }
-        ensures changes { result.duration_changes ≡ 0 }
-        ensures duration { result.duration ≡ around.now.duration }
-        ensures no_init { result.received_init ≡ false }
+    pub fn end_work(&mut self, around: &BufferContext) -> Reply
+        ensures { IsDone (end_work_result (surroundings around.now)) 0 around.now.duration self.old
+            result self.new }
     {
         let events = resets::abort_events(self.running.is_updating());
         self.running = Running::Nothing;
@@ -250,7 +276,7 @@ impl<S: FrameStore> Buffer<S> {
 
     /// One step of the work that runs: the next item of an append or its end, or the whole of a
     /// removal. It takes its memory first; an `Err` changes nothing.
-    pub fn turn(&mut self, around: &Around) -> Result<Turned, OutOfMemory>
+    pub fn turn(&mut self, around: &BufferContext) -> Result<Turned, OutOfMemory>
         ensures turned { IsTurnIfOk self.old result self.new
             (turn_result (surroundings around.now)) }
         ensures idle { IfOk result (λ turned. IsIdle turned self.old self.new) }
@@ -295,69 +321,66 @@ impl<S: FrameStore> Buffer<S> {
     /// The name by which [`set_mode`](Self::set_mode) would be refused before anything comes of it,
     /// if it would. In a media segment that is where the source is not ended: an ended source is
     /// opened again first. It takes no memory.
-    pub fn mode_refusal(&self, mode: Mode, around: &Around) -> Option<Name>
-        ensures { (f : Feed) (c : Content) → Stands self.now f c
-            → result ≡ mode_refusal mode (surroundings around.now) f c }
+    pub fn mode_refusal(&self, mode: Mode, around: &BufferContext) -> Option<Name>
+        ensures { IsRefusal (calls.SetMode mode) (surroundings around.now) self.now result }
     {
         settings_calls::mode_refusal(&self.stream, &self.media, &self.running, mode, around)
     }
 
     /// The name by which [`set_offset`](Self::set_offset) would be refused before anything comes of
     /// it, if it would; in a media segment as at [`mode_refusal`](Self::mode_refusal).
-    pub fn offset_refusal(&self, around: &Around) -> Option<Name>
-        ensures { (f : Feed) (c : Content) → Stands self.now f c
-            → result ≡ offset_refusal (surroundings around.now) f }
+    pub fn offset_refusal(&self, around: &BufferContext) -> Option<Name>
+        ensures { (t : ℤ) → IsRefusal (calls.SetOffset (Moment.At t)) (surroundings around.now)
+            self.now result }
     {
-        settings_calls::offset_refusal(&self.stream, &self.running, around)
+        settings_calls::offset_refusal(&self.stream, &self.media, &self.running, around)
     }
 
     /// The name by which [`set_window_start`](Self::set_window_start) would be refused, if it would.
     pub fn window_start_refusal(&self, t: Ticks) -> Option<Name>
-        ensures { (f : Feed) (c : Content) → Stands self.now f c
-            → result ≡ window_start_refusal t f c }
+        ensures { (a : Surroundings) → IsRefusal (calls.SetWindowStart (Moment.At t)) a self.now
+            result }
     {
         settings_calls::window_start_refusal(&self.media, &self.running, t)
     }
 
     /// The name by which [`set_window_end`](Self::set_window_end) would be refused, if it would.
     pub fn window_end_refusal(&self, t: Moment) -> Option<Name>
-        ensures { (f : Feed) (c : Content) → Stands self.now f c
-            → result ≡ window_end_refusal t f c }
+        ensures { (a : Surroundings) → IsRefusal (calls.SetWindowEnd t) a self.now result }
     {
         settings_calls::window_end_refusal(&self.media, &self.running, &t)
     }
 
     /// The name by which [`remove`](Self::remove) would be refused, if it would.
-    pub fn remove_refusal(&self, start: Ticks, end: Moment, around: &Around) -> Option<Name>
-        ensures { (f : Feed) (c : Content) → Stands self.now f c
-            → result ≡ remove_refusal start end (surroundings around.now) f }
+    pub fn remove_refusal(&self, start: Ticks, end: Moment, around: &BufferContext) -> Option<Name>
+        ensures { IsRefusal (calls.Remove (Moment.At start) end) (surroundings around.now) self.now
+            result }
     {
         removal::remove_refusal(&self.running, start, &end, around)
     }
 
     /// The name by which [`append`](Self::append) would be refused before coded frames are evicted,
     /// if it would. It does not look at the quota.
-    pub fn append_refusal(&self, around: &Around) -> Option<Name>
-        ensures { (f : Feed) (c : Content) → Stands self.now f c
-            → result ≡ append_refusal (surroundings around.now) f }
+    pub fn append_refusal(&self, around: &BufferContext) -> Option<Name>
+        ensures { (input : AppendInput) → IsRefusal (calls.Append (Some input))
+            (surroundings around.now) self.now result }
     {
         appending::append_refusal(&self.running, around)
     }
 
     /// The name by which [`abort`](Self::abort) would be refused, if it would.
-    pub fn abort_refusal(&self, around: &Around) -> Option<Name>
-        ensures { (f : Feed) (c : Content) → Stands self.now f c
-            → result ≡ abort_refusal (surroundings around.now) f }
+    pub fn abort_refusal(&self, around: &BufferContext) -> Option<Name>
+        ensures { IsRefusal calls.Abort (surroundings around.now) self.now result }
     {
         resets::abort_refusal(&self.running, around)
     }
 
     /// The name by which [`change_type`](Self::change_type) would be refused, if it would.
     pub fn change_type_refusal(&self, text: &str) -> Option<Name>
-        ensures { (f : Feed) (c : Content) → Stands self.now f c
-            → result ≡ change_type_refusal text.now f }
+        ensures { (a : Surroundings) → IsRefusal (calls.ChangeType (type_of text.now)) a self.now
+            result }
     {
-        resets::change_type_refusal(&self.running, text)
+        resets::change_type_refusal(&self.running, read_type(text))
     }
 
     /// What is buffered (Media Source Extensions, 3.1, `buffered`), where the source is ended or

@@ -1,15 +1,21 @@
 //! What follows from the definitions of this crate: functions that do nothing, with the laws as
 //! their contracts.
 
-ghost use Rattle.std.specs.Prelude.{◌≡◌, ◌+◌, ℕ, ℤ, List, Some, None, false, length};
-ghost use Rattle.mse_base.specs.declared.ticks.Moment.{Moment};
+ghost use Rattle.std.specs.Prelude.{◌≡◌, ◌+◌, ℕ, ℤ, Some, None, IsSome, false, length};
+ghost use Rattle.mse_base.specs.declared.frame.CodedFrame.{CodedFrame};
+ghost use Rattle.mse_types.specs.declared.answer.Container.{Container};
 ghost use Rattle.mse_calls.specs.declared.answers.Name.{Name};
-ghost use Rattle.mse_calls.specs.declared.calls.Mode.{Mode};
+ghost use Rattle.parser_loop.specs.Items.{FrameItem};
 ghost use Rattle.byte_stream.specs.Readings.{items_in};
 ghost use Rattle.byte_stream.specs.Streams.{ForEachReading, StreamView};
-ghost use Rattle.buffer_state.specs.State.{Feed, Content, Surroundings, AppendInput};
-ghost use Rattle.buffer_state.specs.Replies.{AreRefusalsTold, refused_result};
-ghost use Rattle.buffer_state.specs.Calls.{mode_refusal, mode_result, offset_refusal, offset_result, window_start_refusal, window_start_result, window_end_refusal, window_end_result, remove_refusal, remove_result, append_refusal, append_result, append_result_after_eviction, abort_refusal, abort_result, change_type_refusal, change_type_result};
+ghost use Rattle.track_buffers.specs.Frames.{place_of};
+ghost use Rattle.track_buffers.specs.Settings.{new_media};
+ghost use Rattle.buffer_state.specs.State.{Feed, Content, KeptBuffer, Stands, Surroundings, AppendInput, new_feed, next_item};
+ghost use Rattle.buffer_state.specs.Replies.{CallResult, refused_result};
+ghost use Rattle.buffer_state.specs.Turns.{turn_result};
+ghost use Rattle.buffer_state.specs.Finding.{HasBuffersForFrames, HasBuffersBehind};
+ghost use Rattle.buffer_state.specs.Calls.{append_refusal, append_result, append_result_after_eviction, end_work_result, has_generated_timestamps};
+ghost use Rattle.buffer_state.specs.AllCalls.{CallView, IsForQuota, early_name, refusal_of_call, result_of_call};
 ghost use Rattle.buffer_state.specs.StepsLeft.{items_left};
 
 /// The items that are left to an append are those of the string but for the ones that were taken.
@@ -18,20 +24,20 @@ pub fn left_law()
         items_left s.parser + r.string.taken ≡ length (items_in r)) }
 {}
 
-/// The refusals before anything comes of a call are those of the call, both ways: it leaves all as
-/// it was, and the source is not opened again before.
+/// A call whose refusal is a name is refused by it, which leaves all as it was, and the source is
+/// not opened again before. A call that is refused so without such a name was an append of bytes
+/// that there are, for the quota. The name by which a call is refused whatever the state is its
+/// refusal in every state.
 pub fn refusals()
-    ensures mode { (mode : Mode) → AreRefusalsTold (mode_refusal mode) (mode_result mode) }
-    ensures offset { (t : ℤ) → AreRefusalsTold (λ a f c. offset_refusal a f) (offset_result t) }
-    ensures window_start { (t : ℤ) → AreRefusalsTold (λ a f c. window_start_refusal t f c)
-        (window_start_result t) }
-    ensures window_end { (t : Moment) → AreRefusalsTold (λ a f c. window_end_refusal t f c)
-        (window_end_result t) }
-    ensures remove { (start : ℤ) (end : Moment)
-        → AreRefusalsTold (λ a f c. remove_refusal start end a f) (remove_result start end) }
-    ensures abort { AreRefusalsTold (λ a f c. abort_refusal a f) abort_result }
-    ensures change_type { (text : List ℕ)
-        → AreRefusalsTold (λ a f c. change_type_refusal text f) (change_type_result text) }
+    ensures refused { (call : CallView) (a : Surroundings) (f : Feed) (c : Content) (name : Name)
+        → refusal_of_call call a f c ≡ Some name
+        → result_of_call call a f c ≡ refused_result name false a f c }
+    ensures told { (call : CallView) (a : Surroundings) (f : Feed) (c : Content) (name : Name)
+        → refusal_of_call call a f c ≡ None
+        → result_of_call call a f c ≡ refused_result name false a f c
+        → IsForQuota call name }
+    ensures early { (call : CallView) (a : Surroundings) (f : Feed) (c : Content) (name : Name)
+        → early_name call ≡ Some name → refusal_of_call call a f c ≡ Some name }
 {}
 
 /// An append that is refused before coded frames are evicted leaves all as it was, and any other
@@ -43,4 +49,21 @@ pub fn append_refusals()
     ensures evicts { (input : AppendInput) (a : Surroundings) (f : Feed) (c : Content)
         → append_refusal a f ≡ None
         → append_result input a f c ≡ append_result_after_eviction input a f c }
+{}
+
+/// A coded frame of the byte stream always finds its track buffer. A new buffer has a track buffer for each video or
+/// audio track of the latest presentation, of which there is none; each call and each step of running work keep that;
+/// and then the coded frame that comes next is of a track that has one.
+pub fn frames_find_their_buffers()
+    ensures made { (gap : ℤ) (container : Container) → HasBuffersForFrames (new_feed container None)
+        (record { media = new_media gap (has_generated_timestamps container); latest = None }) }
+    ensures call { (call : CallView) (a : Surroundings) (f : Feed) (c : Content)
+        → HasBuffersForFrames f c → HasBuffersBehind (result_of_call call a f c) }
+    ensures end_work { (a : Surroundings) (f : Feed) (c : Content)
+        → HasBuffersForFrames f c → HasBuffersBehind (end_work_result a f c) }
+    ensures turn { (a : Surroundings) (f : Feed) (c : Content) (r : CallResult)
+        → HasBuffersForFrames f c → turn_result a f c ≡ Some r → HasBuffersBehind r }
+    ensures found { (k : KeptBuffer) (f : Feed) (c : Content) (frame : CodedFrame) (offset : ℕ)
+        → Stands k f c → HasBuffersForFrames f c → next_item f ≡ Some (FrameItem frame offset)
+        → IsSome (place_of frame.track_id c.media.tracks) }
 {}

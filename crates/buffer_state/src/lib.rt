@@ -10,8 +10,9 @@
 #![tactic(auto)]
 
 mod appending;
-mod around;
 mod buffer;
+mod buffer_context;
+mod call;
 mod faults;
 pub mod laws;
 mod removal;
@@ -21,9 +22,10 @@ mod running;
 mod settings_calls;
 mod turns;
 
-pub use around::Around;
 pub use buffer::Buffer;
+pub use buffer_context::BufferContext;
 pub use byte_stream::{ByteFault, Container};
+pub use call::BufferCall;
 pub use faults::{Fault, init_missing, init_number};
 pub use reply::{Reply, Turned};
 pub use running::Running;

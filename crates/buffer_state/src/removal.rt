@@ -1,14 +1,16 @@
 //! `SourceBuffer.remove` (Media Source Extensions, 3.2).
 
-ghost use Rattle.std.specs.Prelude.{◌≡◌, ◌||◌, not, pos, int_lt, false};
+ghost use Rattle.std.specs.Prelude.{◌≡◌, ◌||◌, not, pos, int_lt};
+ghost use Rattle.mse_base.specs.declared.ticks.Moment.{Moment};
 ghost use Rattle.mse_base.specs.Moments.{is_after, is_before, is_nan};
 ghost use Rattle.buffer_state.specs.State.{Feed, kept_buffer, surroundings};
-ghost use Rattle.buffer_state.specs.Replies.{IsBufferAnswer};
-ghost use Rattle.buffer_state.specs.Calls.{remove_refusal, remove_result};
+ghost use Rattle.buffer_state.specs.Calls.{remove_refusal};
+ghost use Rattle.buffer_state.specs.AllCalls.{IsCallDone};
+ghost use Rattle.buffer_state.specs.AllCalls as calls;
 ghost use Rattle.track_buffers.specs.Media.{Media};
 ghost use Rattle.byte_stream.specs.Streams.{StreamView};
 
-use crate::around::Around;
+use crate::buffer_context::BufferContext;
 use crate::reply::{Reply, event_reply, one};
 use crate::running::Running;
 use mse_base::{Moment, Ticks};
@@ -27,7 +29,7 @@ pub(crate) fn remove_refusal(
     running: &Running,
     start: Ticks,
     end: &Moment,
-    around: &Around,
+    around: &BufferContext,
 ) -> Option<Name>
     ensures { (f : Feed) → running.now ≡ f.running
         → result ≡ remove_refusal start end.now (surroundings around.now) f }
@@ -42,14 +44,15 @@ pub(crate) fn remove_refusal(
 }
 
 /// Begins a removal.
-pub(crate) fn remove(running: &mut Running, start: Ticks, end: Moment, around: &Around) -> Reply
-    ensures answered { (stream : StreamView) (media : Media)
-        → IsBufferAnswer (kept_buffer stream media running.old) result
-        (kept_buffer stream media running.new)
-        (remove_result start end (surroundings around.now)) }
-    ensures duration { result.duration ≡ around.now.duration }
-    ensures changes { result.duration_changes ≡ 0 }
-    ensures no_init { result.received_init ≡ false }
+pub(crate) fn remove(
+    running: &mut Running,
+    start: Ticks,
+    end: Moment,
+    around: &BufferContext,
+) -> Reply
+    ensures { (stream : StreamView) (media : Media)
+        → IsCallDone (calls.Remove (Moment.At start) end) (surroundings around.now)
+        (kept_buffer stream media running.old) result (kept_buffer stream media running.new) }
 {
     if let Some(name) = remove_refusal(running, start, &end, around) {
         return Reply::refused(name, false, &around.duration);

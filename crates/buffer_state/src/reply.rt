@@ -1,22 +1,19 @@
 ghost use Rattle.std.specs.Prelude.{◌≡◌, [], ◌∷◌, Some};
-ghost use Rattle.buffer_state.specs.Replies.{refused_reply, effect_reply, event_reply, events_first_reply, error_reply};
+ghost use Rattle.mse_base.specs.Moments.{IsNotAfter};
+ghost use Rattle.buffer_state.specs.Replies.{refused_reply, effect_reply, event_reply, error_reply};
 
 use mse_base::Moment;
 use mse_calls::{Changes, EventKind, FaultView, Name};
 use track_buffers::{SourceEffect, no_effect};
 
-/// What comes of a call or a turn at the source, the element and the buffer. The parts come in the
-/// order of the fields, but for the events at the buffer: where `events_first` is set they fire
-/// before the duration changes, and else behind `activated`, before the source ends by a fault.
+/// What comes of a call or a turn at the source, the element and the buffer. In which order the
+/// events of its parts are told goes by the call, or by the step of running work.
 #[derive(Debug, Drop)]
 pub struct Reply {
     /// The name by which the call is refused, if it is.
     pub refused: Option<Name>,
     /// Whether the source is opened again before all else.
     pub reopened: bool,
-    /// Whether the events at the buffer fire before the duration changes: those of an abort, whose
-    /// reset of the parser comes behind them.
-    pub events_first: bool,
     /// How often the duration changed.
     pub duration_changes: u64,
     /// What the duration is now.
@@ -44,12 +41,12 @@ pub enum Turned {
 impl Reply {
     /// A refusal by a name, where the duration is this.
     pub fn refused(name: Name, reopened: bool, duration: &Moment) -> Reply
-        ensures { result ≡ refused_reply name reopened duration.now }
+        ensures reply { result ≡ refused_reply name reopened duration.now }
+        ensures no_fall { IsNotAfter duration.now result.duration }
     {
         Reply {
             refused: Some(name),
             reopened,
-            events_first: false,
             duration_changes: 0,
             duration: *duration,
             activated: false,
@@ -60,14 +57,13 @@ impl Reply {
     }
 }
 
-/// What comes of it at the source, and behind it the events at the buffer.
+/// What comes of it at the source, and the events at the buffer.
 pub(crate) fn effect_reply(reopened: bool, effect: SourceEffect, events: Changes) -> Reply
     ensures { result ≡ effect_reply reopened effect events }
 {
     Reply {
         refused: None,
         reopened,
-        events_first: false,
         duration_changes: effect.duration_changes,
         duration: effect.duration,
         activated: effect.activated,
@@ -75,15 +71,6 @@ pub(crate) fn effect_reply(reopened: bool, effect: SourceEffect, events: Changes
         events,
         fault: None,
     }
-}
-
-/// The events at the buffer, and behind them what comes of it at the source.
-pub(crate) fn events_first_reply(events: Changes, effect: SourceEffect) -> Reply
-    ensures { result ≡ events_first_reply events effect }
-{
-    let mut reply = effect_reply(false, effect, events);
-    reply.events_first = true;
-    reply
 }
 
 /// An append error, behind what came at the source before it.
@@ -98,7 +85,8 @@ pub(crate) fn error_reply(fault: FaultView, effect: SourceEffect) -> Reply
 
 /// Events at the buffer alone.
 pub(crate) fn event_reply(reopened: bool, duration: &Moment, events: Changes) -> Reply
-    ensures { result ≡ event_reply reopened duration.now events }
+    ensures reply { result ≡ event_reply reopened duration.now events }
+    ensures no_fall { IsNotAfter duration.now result.duration }
 {
     effect_reply(reopened, no_effect(duration), events)
 }

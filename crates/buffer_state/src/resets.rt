@@ -2,24 +2,27 @@
 
 ghost use Rattle.std.specs.Prelude.{◌≡◌, ◌≤◌, ◌≤ℤ◌, pos, length, false, Option, None, IfOk, OnErr};
 ghost use Rattle.std.specs.List.{AllByRecursion};
+ghost use Rattle.mse_base.specs.Moments.{IsNotAfter};
 ghost use Rattle.mse_types.specs.declared.answer.Container.{Container};
 ghost use Rattle.parser_loop.specs.Items.{answer_item};
 ghost use Rattle.byte_stream.specs.Readings.{ready_at};
 ghost use Rattle.byte_stream.specs.Streams.{ForEachReading, ready_of};
-ghost use Rattle.track_buffers.specs.Media.{AreEndedWithin, IsNotAfter};
+ghost use Rattle.track_buffers.specs.Media.{AreEndedWithin};
 ghost use Rattle.track_buffers.specs.Frames.{flush_result};
 ghost use Rattle.buffer_state.specs.State.{Feed, kept_buffer, ready_in, surroundings};
-ghost use Rattle.buffer_state.specs.Replies.{IsBufferAnswerIfOk, IsStillWithin};
-ghost use Rattle.buffer_state.specs.Calls.{abort_refusal, abort_result, abort_events, has_generated_timestamps, change_type_refusal, change_type_result, change_type_result_after_flush};
+ghost use Rattle.buffer_state.specs.Replies.{IsDone};
+ghost use Rattle.buffer_state.specs.Calls.{abort_refusal, abort_events, has_generated_timestamps, change_type_refusal_by_answer, change_type_result_after_flush};
+ghost use Rattle.buffer_state.specs.AllCalls.{IsCallDone};
+ghost use Rattle.buffer_state.specs.AllCalls as calls;
 ghost use Rattle.buffer_state.specs.Steps.{frame_in};
 
-use crate::around::Around;
-use crate::reply::{Reply, effect_reply, events_first_reply, two};
+use crate::buffer_context::BufferContext;
+use crate::reply::{Reply, effect_reply, two};
 use crate::running::Running;
 use byte_stream::{ByteStream, Container, Next};
 use mse_base::{CodedFrame, Moment, OutOfMemory};
 use mse_calls::{Changes, EventKind, Name};
-use mse_types::{TypeAnswer, read_type};
+use mse_types::TypeAnswer;
 use std::alloc::Global;
 use track_buffers::{SourceEffect, TrackBuffers};
 use track_store::FrameStore;
@@ -68,6 +71,8 @@ fn flush<S: FrameStore>(
     ensures within_duration { IfOk result (λ effect. AreEndedWithin duration media.old.media.tracks
         → AreEndedWithin effect.duration media.new.media.tracks) }
     ensures changes { IfOk result (λ effect. effect.duration_changes ≤ ready_of stream.now) }
+    ensures unchanged { IfOk result (λ effect. ready_of stream.now ≡ 0
+        → effect.duration ≡ duration) }
     ensures no_fall { IfOk result (λ effect. IsNotAfter duration effect.duration) }
     ensures no_init { IfOk result (λ effect. effect.received_init ≡ false) }
     ensures err { OnErr result (media.new.media ≡ media.old.media) }
@@ -89,7 +94,7 @@ pub(crate) fn abort_events(running: bool) -> Changes
 }
 
 /// The refusal of an abort.
-pub(crate) fn abort_refusal(running: &Running, around: &Around) -> Option<Name>
+pub(crate) fn abort_refusal(running: &Running, around: &BufferContext) -> Option<Name>
     ensures { (f : Feed) → running.now ≡ f.running
         → result ≡ abort_refusal (surroundings around.now) f }
 {
@@ -106,18 +111,12 @@ pub(crate) fn abort<S: FrameStore>(
     stream: &mut ByteStream,
     media: &mut TrackBuffers<S>,
     running: &mut Running,
-    around: &Around,
+    around: &BufferContext,
 ) -> Result<Reply, OutOfMemory>
     requires { stream.old.offered ≡ None }
-    ensures answered { IsBufferAnswerIfOk
-        (kept_buffer stream.old media.old.media running.old) result
-        (kept_buffer stream.new media.new.media running.new)
-        (abort_result (surroundings around.now)) }
-    ensures within_duration { IfOk result
-        (λ reply. IsStillWithin around.now.duration media.old.media reply media.new.media) }
-    ensures changes { IfOk result (λ reply. reply.duration_changes ≤ ready_of stream.old) }
-    ensures no_fall { IfOk result (λ reply. IsNotAfter around.now.duration reply.duration) }
-    ensures no_init { IfOk result (λ reply. reply.received_init ≡ false) }
+    ensures done { IfOk result (λ reply. IsCallDone calls.Abort (surroundings around.now)
+        (kept_buffer stream.old media.old.media running.old) reply
+        (kept_buffer stream.new media.new.media running.new)) }
     ensures none_offered { stream.new.offered ≡ None }
     ensures err { OnErr result (kept_buffer stream.new media.new.media running.new
         ≡ kept_buffer stream.old media.old.media running.old) }
@@ -131,7 +130,7 @@ pub(crate) fn abort<S: FrameStore>(
     media.reset_window();
     stream.reset();
     *running = Running::Nothing;
-    Ok(events_first_reply(events, effect))
+    Ok(effect_reply(false, effect, events))
 }
 
 /// Whether the byte stream format of a container generates timestamps.
@@ -150,19 +149,15 @@ fn take_type<S: FrameStore>(
     stream: &mut ByteStream,
     media: &mut TrackBuffers<S>,
     container: Container,
-    around: &Around,
+    around: &BufferContext,
 ) -> Result<Reply, OutOfMemory>
     requires { stream.old.offered ≡ None }
-    ensures answered { IsBufferAnswerIfOk
-        (kept_buffer stream.old media.old.media Running.Nothing) result
-        (kept_buffer stream.new media.new.media Running.Nothing)
+    ensures done { IfOk result (λ reply. IsDone
         (λ f c. change_type_result_after_flush container
-        (flush_result (ready_in f) c.media around.now.duration) (surroundings around.now)) }
-    ensures within_duration { IfOk result
-        (λ reply. IsStillWithin around.now.duration media.old.media reply media.new.media) }
-    ensures changes { IfOk result (λ reply. reply.duration_changes ≤ ready_of stream.old) }
-    ensures no_fall { IfOk result (λ reply. IsNotAfter around.now.duration reply.duration) }
-    ensures no_init { IfOk result (λ reply. reply.received_init ≡ false) }
+        (flush_result (ready_in f) c.media around.now.duration) (surroundings around.now))
+        (ready_of stream.old) around.now.duration
+        (kept_buffer stream.old media.old.media Running.Nothing) reply
+        (kept_buffer stream.new media.new.media Running.Nothing)) }
     ensures none_offered { stream.new.offered ≡ None }
     ensures err { OnErr result ((stream.new ≡ stream.old) × (media.new.media ≡ media.old.media)) }
 {
@@ -174,10 +169,10 @@ fn take_type<S: FrameStore>(
 }
 
 /// The refusal of a change of type.
-pub(crate) fn change_type_refusal(running: &Running, text: &str) -> Option<Name>
-    ensures { (f : Feed) → running.now ≡ f.running → result ≡ change_type_refusal text.now f }
+pub(crate) fn change_type_refusal(running: &Running, answer: TypeAnswer) -> Option<Name>
+    ensures { (f : Feed) → running.now ≡ f.running
+        → result ≡ change_type_refusal_by_answer answer f }
 {
-    let answer = read_type(text);
     if let TypeAnswer::Empty = answer {
         return Some(Name::TypeError);
     }
@@ -196,24 +191,17 @@ pub(crate) fn change_type<S: FrameStore>(
     stream: &mut ByteStream,
     media: &mut TrackBuffers<S>,
     running: &Running,
-    text: &str,
-    around: &Around,
+    answer: TypeAnswer,
+    around: &BufferContext,
 ) -> Result<Reply, OutOfMemory>
     requires { stream.old.offered ≡ None }
-    ensures answered { IsBufferAnswerIfOk
-        (kept_buffer stream.old media.old.media running.now) result
-        (kept_buffer stream.new media.new.media running.now)
-        (change_type_result text.now (surroundings around.now)) }
-    ensures within_duration { IfOk result
-        (λ reply. IsStillWithin around.now.duration media.old.media reply media.new.media) }
-    ensures changes { IfOk result (λ reply. reply.duration_changes ≤ ready_of stream.old) }
-    ensures no_fall { IfOk result (λ reply. IsNotAfter around.now.duration reply.duration) }
-    ensures no_init { IfOk result (λ reply. reply.received_init ≡ false) }
+    ensures done { IfOk result (λ reply. IsCallDone (calls.ChangeType answer)
+        (surroundings around.now) (kept_buffer stream.old media.old.media running.now) reply
+        (kept_buffer stream.new media.new.media running.now)) }
     ensures none_offered { stream.new.offered ≡ None }
     ensures err { OnErr result (kept_buffer stream.new media.new.media running.now
         ≡ kept_buffer stream.old media.old.media running.now) }
 {
-    let answer = read_type(text);
     if let TypeAnswer::Empty = answer {
         return Ok(Reply::refused(Name::TypeError, false, &around.duration));
     }

@@ -1,13 +1,16 @@
 //! The attributes of a source buffer, on setting (Media Source Extensions, 3.1).
 
-ghost use Rattle.std.specs.Prelude.{◌≡◌, ◌≢◌, ◌≤ℤ◌, pos, false, None};
+ghost use Rattle.std.specs.Prelude.{◌≡◌, ◌≢◌, ◌≤ℤ◌, ◌&&◌, not, ℤ, pos, None};
 ghost use Rattle.mse_base.specs.declared.ticks.Moment.{Moment};
 ghost use Rattle.byte_stream.specs.Streams as byte_stream;
-ghost use Rattle.buffer_state.specs.State.{Feed, Content, Stands, kept_buffer, surroundings};
-ghost use Rattle.buffer_state.specs.Replies.{IsBufferAnswer, IsStillWithin};
-ghost use Rattle.buffer_state.specs.Calls.{is_sequence, phase_refusal, mode_refusal, mode_result, offset_refusal, offset_result, window_start_refusal, window_start_result, window_end_refusal, window_end_result};
+ghost use Rattle.track_buffers.specs.Media.{Media};
+ghost use Rattle.buffer_state.specs.State.{Feed, Content, kept_buffer, surroundings};
+ghost use Rattle.buffer_state.specs.Replies.{early_refusal};
+ghost use Rattle.buffer_state.specs.Calls.{is_sequence, settings_result_by_phase, window_start_refusal, window_end_refusal};
+ghost use Rattle.buffer_state.specs.AllCalls.{IsCallDone, IsRefusal};
+ghost use Rattle.buffer_state.specs.AllCalls as calls;
 
-use crate::around::Around;
+use crate::buffer_context::BufferContext;
 use crate::reply::{Reply, event_reply};
 use crate::running::Running;
 use byte_stream::ByteStream;
@@ -25,39 +28,41 @@ fn is_sequence(mode: Mode) -> bool
     }
 }
 
-/// The refusal in a media segment, which comes first where the source is not ended.
-fn phase_refusal(stream: &ByteStream, around: &Around) -> Option<Name>
-    requires { stream.now.offered ≡ None }
-    ensures { (f : Feed) → byte_stream.Stands stream.now f.reading
-        → result ≡ phase_refusal (surroundings around.now) f }
+/// Whether the mode is "segments", and timestamps are generated.
+fn is_refused_mode<S: FrameStore>(media: &TrackBuffers<S>, mode: Mode) -> bool
+    ensures { result ≡ (media.now.media.settings.generate && not (is_sequence mode)) }
 {
-    if stream.phase() != Phase::InMedia {
-        return None;
-    }
-    if around.ready.is_ended() {
-        None
-    } else {
-        Some(Name::InvalidState)
-    }
+    media.settings().generate && !is_sequence(mode)
 }
 
-/// The refusal of a mode before anything comes of the call.
+/// The refusal in a media segment, which comes first where the source is not ended.
+fn phase_refusal(stream: &ByteStream, around: &BufferContext) -> Option<Name>
+    requires { stream.now.offered ≡ None }
+    ensures { (m : Media) (f : Feed) (c : Content) → byte_stream.Stands stream.now f.reading
+        → result ≡ early_refusal (settings_result_by_phase m (surroundings around.now) f c).reply }
+{
+    if stream.phase() == Phase::InMedia && !around.ready.is_ended() {
+        return Some(Name::InvalidState);
+    }
+    None
+}
+
+/// The refusal of a mode before an ended source is opened again.
 pub(crate) fn mode_refusal<S: FrameStore>(
     stream: &ByteStream,
     media: &TrackBuffers<S>,
     running: &Running,
     mode: Mode,
-    around: &Around,
+    around: &BufferContext,
 ) -> Option<Name>
     requires { stream.now.offered ≡ None }
-    ensures { (f : Feed) (c : Content) →
-        Stands (kept_buffer stream.now media.now.media running.now) f c
-        → result ≡ mode_refusal mode (surroundings around.now) f c }
+    ensures { IsRefusal (calls.SetMode mode) (surroundings around.now)
+        (kept_buffer stream.now media.now.media running.now) result }
 {
     if running.is_updating() {
         return Some(Name::InvalidState);
     }
-    if media.settings().generate && !is_sequence(mode) {
+    if is_refused_mode(media, mode) {
         return Some(Name::TypeError);
     }
     phase_refusal(stream, around)
@@ -70,20 +75,18 @@ pub(crate) fn set_mode<S: FrameStore>(
     media: &mut TrackBuffers<S>,
     running: &Running,
     mode: Mode,
-    around: &Around,
+    around: &BufferContext,
 ) -> Reply
     requires { stream.now.offered ≡ None }
-    ensures answered { IsBufferAnswer (kept_buffer stream.now media.old.media running.now) result
-        (kept_buffer stream.now media.new.media running.now)
-        (mode_result mode (surroundings around.now)) }
-    ensures within_duration { IsStillWithin around.now.duration media.old.media result
-        media.new.media }
-    ensures changes { result.duration_changes ≡ 0 }
-    ensures duration { result.duration ≡ around.now.duration }
-    ensures no_init { result.received_init ≡ false }
+    ensures { IsCallDone (calls.SetMode mode) (surroundings around.now)
+        (kept_buffer stream.now media.old.media running.now) result
+        (kept_buffer stream.now media.new.media running.now) }
 {
-    if let Some(name) = mode_refusal(stream, media, running, mode, around) {
-        return Reply::refused(name, false, &around.duration);
+    if running.is_updating() {
+        return Reply::refused(Name::InvalidState, false, &around.duration);
+    }
+    if is_refused_mode(media, mode) {
+        return Reply::refused(Name::TypeError, false, &around.duration);
     }
     let is_reopened = around.ready.is_ended();
     if stream.phase() == Phase::InMedia {
@@ -93,15 +96,16 @@ pub(crate) fn set_mode<S: FrameStore>(
     event_reply(is_reopened, &around.duration, Changes::new())
 }
 
-/// The refusal of an offset before anything comes of the call.
-pub(crate) fn offset_refusal(
+/// The refusal of an offset before an ended source is opened again.
+pub(crate) fn offset_refusal<S: FrameStore>(
     stream: &ByteStream,
+    media: &TrackBuffers<S>,
     running: &Running,
-    around: &Around,
+    around: &BufferContext,
 ) -> Option<Name>
     requires { stream.now.offered ≡ None }
-    ensures { (f : Feed) → byte_stream.Stands stream.now f.reading → running.now ≡ f.running
-        → result ≡ offset_refusal (surroundings around.now) f }
+    ensures { (t : ℤ) → IsRefusal (calls.SetOffset (Moment.At t)) (surroundings around.now)
+        (kept_buffer stream.now media.now.media running.now) result }
 {
     if running.is_updating() {
         return Some(Name::InvalidState);
@@ -116,20 +120,15 @@ pub(crate) fn set_offset<S: FrameStore>(
     media: &mut TrackBuffers<S>,
     running: &Running,
     t: Ticks,
-    around: &Around,
+    around: &BufferContext,
 ) -> Reply
     requires { stream.now.offered ≡ None }
-    ensures answered { IsBufferAnswer (kept_buffer stream.now media.old.media running.now) result
-        (kept_buffer stream.now media.new.media running.now)
-        (offset_result t (surroundings around.now)) }
-    ensures within_duration { IsStillWithin around.now.duration media.old.media result
-        media.new.media }
-    ensures changes { result.duration_changes ≡ 0 }
-    ensures duration { result.duration ≡ around.now.duration }
-    ensures no_init { result.received_init ≡ false }
+    ensures { IsCallDone (calls.SetOffset (Moment.At t)) (surroundings around.now)
+        (kept_buffer stream.now media.old.media running.now) result
+        (kept_buffer stream.now media.new.media running.now) }
 {
-    if let Some(name) = offset_refusal(stream, running, around) {
-        return Reply::refused(name, false, &around.duration);
+    if running.is_updating() {
+        return Reply::refused(Name::InvalidState, false, &around.duration);
     }
     let is_reopened = around.ready.is_ended();
     if stream.phase() == Phase::InMedia {
@@ -165,16 +164,11 @@ pub(crate) fn set_window_start<S: FrameStore>(
     media: &mut TrackBuffers<S>,
     running: &Running,
     t: Ticks,
-    around: &Around,
+    around: &BufferContext,
 ) -> Reply
-    ensures answered { IsBufferAnswer (kept_buffer stream.now media.old.media running.now) result
-        (kept_buffer stream.now media.new.media running.now) (window_start_result t
-        (surroundings around.now)) }
-    ensures within_duration { IsStillWithin around.now.duration media.old.media result
-        media.new.media }
-    ensures changes { result.duration_changes ≡ 0 }
-    ensures duration { result.duration ≡ around.now.duration }
-    ensures no_init { result.received_init ≡ false }
+    ensures { IsCallDone (calls.SetWindowStart (Moment.At t)) (surroundings around.now)
+        (kept_buffer stream.now media.old.media running.now) result
+        (kept_buffer stream.now media.new.media running.now) }
 {
     if let Some(name) = window_start_refusal(media, running, t) {
         return Reply::refused(name, false, &around.duration);
@@ -209,16 +203,11 @@ pub(crate) fn set_window_end<S: FrameStore>(
     media: &mut TrackBuffers<S>,
     running: &Running,
     t: Moment,
-    around: &Around,
+    around: &BufferContext,
 ) -> Reply
-    ensures answered { IsBufferAnswer (kept_buffer stream.now media.old.media running.now) result
-        (kept_buffer stream.now media.new.media running.now) (window_end_result t
-        (surroundings around.now)) }
-    ensures within_duration { IsStillWithin around.now.duration media.old.media result
-        media.new.media }
-    ensures changes { result.duration_changes ≡ 0 }
-    ensures duration { result.duration ≡ around.now.duration }
-    ensures no_init { result.received_init ≡ false }
+    ensures { IsCallDone (calls.SetWindowEnd t) (surroundings around.now)
+        (kept_buffer stream.now media.old.media running.now) result
+        (kept_buffer stream.now media.new.media running.now) }
 {
     if let Some(name) = window_end_refusal(media, running, &t) {
         return Reply::refused(name, false, &around.duration);

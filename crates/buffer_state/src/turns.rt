@@ -2,20 +2,21 @@
 
 ghost use Rattle.std.specs.Prelude.{◌≡◌, ◌<◌, ◌≤◌, false, Option, Some, None, IfOk, OnOk, OnErr, IfSome};
 ghost use Rattle.mse_base.specs.declared.ticks.Moment.{Moment};
+ghost use Rattle.mse_base.specs.Moments.{IsNotAfter};
 ghost use Rattle.mse_base.specs.declared.track.Presentation.{Presentation};
 ghost use Rattle.parser_loop.specs.Items.{InitItem, latest_after_any, answer_item};
 ghost use Rattle.byte_stream.specs.Readings.{IsLasting};
 ghost use Rattle.byte_stream.specs.Readings as reading;
 ghost use Rattle.byte_stream.specs.Streams.{ForEachReading, StreamView, ready_of};
 ghost use Rattle.track_buffers.specs.Effects.{media_result, source_effect};
-ghost use Rattle.track_buffers.specs.Media.{Media, AreEndedWithin, IsNotAfter};
+ghost use Rattle.track_buffers.specs.Media.{Media, AreEndedWithin};
 ghost use Rattle.buffer_state.specs.State.{Content, kept_buffer, next_item, surroundings};
 ghost use Rattle.buffer_state.specs.Replies.{IsBufferAnswer, IsBufferAnswerIfOk, IsStillWithin};
 ghost use Rattle.buffer_state.specs.Turns.{append_turn_result, removal_turn_result, media_item_result};
 ghost use Rattle.buffer_state.specs.Steps.{IsReadyFor, IsPrepared, IsLeftByStep, Took, content_at, step_result, step_of_item, duration_after, changes_after, step_turn};
 ghost use Rattle.buffer_state.specs.StepsLeft.{steps_left};
 
-use crate::around::Around;
+use crate::buffer_context::BufferContext;
 use crate::faults::{Fault, fault_view};
 use crate::reply::{Reply, effect_reply, error_reply, event_reply, two};
 use crate::running::Running;
@@ -133,7 +134,7 @@ fn answer<S: FrameStore>(
     media: &mut TrackBuffers<S>,
     running: &mut Running,
     step: ItemEffect,
-    around: &Around,
+    around: &BufferContext,
 ) -> Reply
     requires { stream.old.offered ≡ None }
     ensures answered { IsBufferAnswer (kept_buffer stream.old media.old.media running.old) result
@@ -170,7 +171,7 @@ fn frame_fault<S: FrameStore>(
     fault: MediaFault,
     offset: u64,
     effect: SourceEffect,
-    around: &Around,
+    around: &BufferContext,
 ) -> Reply
     requires { stream.old.offered ≡ None }
     ensures answered { IsBufferAnswer (kept_buffer stream.old media.old.media running.old) result
@@ -196,7 +197,7 @@ fn frame_turn<S: FrameStore>(
     stream: &mut ByteStream,
     media: &mut TrackBuffers<S>,
     running: &mut Running,
-    around: &Around,
+    around: &BufferContext,
 ) -> Result<Reply, OutOfMemory>
     requires none_offered { stream.old.offered ≡ None }
     requires appending { running.old ≡ Running.Append }
@@ -235,7 +236,7 @@ fn item_turn<S: FrameStore>(
     stream: &mut ByteStream,
     media: &mut TrackBuffers<S>,
     running: &mut Running,
-    around: &Around,
+    around: &BufferContext,
 ) -> Result<Reply, OutOfMemory>
     requires none_offered { stream.old.offered ≡ None }
     requires appending { running.old ≡ Running.Append }
@@ -272,7 +273,7 @@ pub(crate) fn append_turn<S: FrameStore>(
     stream: &mut ByteStream,
     media: &mut TrackBuffers<S>,
     running: &mut Running,
-    around: &Around,
+    around: &BufferContext,
 ) -> Result<Reply, OutOfMemory>
     requires none_offered { stream.old.offered ≡ None }
     requires appending { running.old ≡ Running.Append }
@@ -303,7 +304,7 @@ pub(crate) fn removal_turn<S: FrameStore>(
     running: &mut Running,
     start: Ticks,
     end: Moment,
-    around: &Around,
+    around: &BufferContext,
 ) -> Reply
     ensures answered { (stream : StreamView)
         → IsBufferAnswer (kept_buffer stream media.old.media running.old) result

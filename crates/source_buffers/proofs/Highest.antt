@@ -1,11 +1,15 @@
 -- The highest end of all buffers bounds the ends of all frames.
-use Rattle.std.proofs.Common.{◌≡◌, ℤ, ◌≤ℤ◌, List, [], ◌∷◌, ◌++◌, refl}
+use Rattle.std.proofs.Common.{◌≡◌, ◌∙◌, ℤ, ◌≤ℤ◌, List, [], ◌∷◌, ◌++◌, refl, ap}
 use Rattle.std.specs.Prelude.{Option, Some, None, option_to_list, flat_map}
 use Rattle.std.specs.List.{AllByRecursion}
 use Rattle.mse_base.specs.declared.ticks.Moment.TheVariants.{Nan, At}
+use Rattle.mse_base.specs.Moments.{greatest}
+use Rattle.track_store.specs.declared.store.Stored.{Stored}
+use Rattle.track_store.specs.Frames.{ends}
+use Rattle.track_store.specs.State.{TrackState}
 use Rattle.track_buffers.specs.Media.{Media, AreEndedWithin}
 use Rattle.track_buffers.specs.Frames.{highest_end_in}
-use Rattle.track_buffers.proofs.Keeping.{endby_none}
+use Rattle.track_buffers.proofs.KeptTracks.{endby_none}
 use Rattle.track_buffers.proofs.Durations.{greatest_bounds, greatest_none, highest_bounds, highest_none, end_by_up}
 use Rattle.source_buffers.specs.All.{IsSlotWithin, AreSlotsWithin, slot_times, highest_end_of_all}
 
@@ -49,3 +53,19 @@ slots_none (m ∷ ms) h =
 
 pub none_stored : (ms : List (Option Media)) → highest_end_of_all ms ≡ None → AreSlotsWithin Nan ms
 none_stored ms h = slots_none ms (greatest_none (flat_map (slot_times highest_end_in) ms) h)
+
+-- and where there is no frame, there is no highest end
+no_ends : (ts : List TrackState) → AllByRecursion (λ t. t.frames ≡ []) ts → flat_map (λ t. ends t.frames) ts ≡ []
+no_ends [] h = refl
+no_ends (t ∷ ts) h = ap (λ (fs : List Stored). ends fs ++ flat_map (λ t. ends t.frames) ts) h.0 ∙ no_ends ts h.1
+
+slot_without : (m : Option Media) → IsSlotWithin Nan m → slot_times highest_end_in m ≡ []
+slot_without None h = refl
+slot_without (Some m) h = ap (λ (ts : List ℤ). option_to_list (greatest ts)) (no_ends m.tracks h)
+
+slots_without : (ms : List (Option Media)) → AreSlotsWithin Nan ms → flat_map (slot_times highest_end_in) ms ≡ []
+slots_without [] h = refl
+slots_without (m ∷ ms) h = ap (λ (ts : List ℤ). ts ++ flat_map (slot_times highest_end_in) ms) (slot_without m h.0) ∙ slots_without ms h.1
+
+pub no_end : (ms : List (Option Media)) → AreSlotsWithin Nan ms → highest_end_of_all ms ≡ None
+no_end ms h = ap greatest (slots_without ms h)

@@ -1,15 +1,13 @@
 -- A call on the source buffer of a number, or a step of its work: what it answers, and all source buffers behind it.
-use Rattle.std.specs.Prelude.{◌≡◌, ℕ, false, List, slice_get, slice_set, Option, Some, None, Result, IfOk}
+use Rattle.std.specs.Prelude.{◌≡◌, ℕ, false, slice_get, slice_set, Option, Some, None}
 use Rattle.mse_base.specs.declared.ticks.Moment.{Moment}
-use Rattle.mse_types.specs.declared.answer.TypeAnswer.{TypeAnswer}
-use Rattle.mse_types.specs.declared.answer.TypeAnswer.TheVariants.{Supported, Empty, Unsupported}
-use Rattle.mse_types.specs.Texts.{type_of}
 use Rattle.mse_calls.specs.declared.answers.Name.{Name}
-use Rattle.mse_calls.specs.declared.answers.Name.TheVariants.{InvalidState, TypeError, NotFound, NoSuchBuffer}
+use Rattle.mse_calls.specs.declared.answers.Name.TheVariants.{NotFound, NoSuchBuffer}
 use Rattle.buffer_state.specs.declared.reply.Reply.{Reply}
 use Rattle.buffer_state.specs.declared.reply.Turned.{Turned}
 use Rattle.buffer_state.specs.declared.reply.Turned.TheVariants.{Did, Idle}
-use Rattle.buffer_state.specs.State.{Feed, Content, KeptBuffer, Surroundings}
+use Rattle.buffer_state.specs.AllCalls.{CallView, refusal_of_call, removed_name, result_of_call}
+use Rattle.buffer_state.specs.State.{KeptBuffer, Surroundings}
 use Rattle.buffer_state.specs.Replies.{CallResult, refused_reply}
 use Rattle.buffer_state.specs.Turns.{turn_result}
 use Rattle.buffer_state.specs.Calls.{end_work_result}
@@ -31,19 +29,9 @@ abbrev pub empty_slot : Reply → SlotResult
 empty_slot reply = record { reply = reply; slot = None }
 
 -- a call on a buffer; where the buffer was removed the call is refused by a name
-abbrev pub call_in_slot : Name → Moment → (Feed → Content → CallResult) → Option BufferState
-    → SlotResult
-call_in_slot name d call None = empty_slot (refused_reply name false d)
-call_in_slot name d call (Some b) = slot_with (call b.feed b.content)
-
--- the name by which changeType of a removed buffer is refused: an empty type is looked at first
-abbrev pub removed_type_name_by_answer : TypeAnswer → Name
-removed_type_name_by_answer Empty = TypeError
-removed_type_name_by_answer Unsupported = InvalidState
-removed_type_name_by_answer (Supported container) = InvalidState
-
-abbrev pub removed_type_name : List ℕ → Name
-removed_type_name text = removed_type_name_by_answer (type_of text)
+abbrev pub call_in_slot : CallView → Surroundings → Option BufferState → SlotResult
+call_in_slot call a None = empty_slot (refused_reply (removed_name call) false a.duration)
+call_in_slot call a (Some b) = slot_with (result_of_call call a b.feed b.content)
 
 -- removeSourceBuffer (Media Source Extensions, 2.2): work that runs is aborted, and the buffer goes; one that has gone
 -- is not found
@@ -62,10 +50,9 @@ turn_in_slot a (Some b) = slot_turn_of (turn_result a b.feed b.content)
 
 -- ---- refusals of a call before anything comes of it, of what is in one slot
 
-abbrev pub refusal_in_slot : Name → (Feed → Content → Option Name) → Option BufferState
-    → Option Name
-refusal_in_slot name refusal None = Some name
-refusal_in_slot name refusal (Some b) = refusal b.feed b.content
+abbrev pub refusal_in_slot : CallView → Surroundings → Option BufferState → Option Name
+refusal_in_slot call a None = Some (removed_name call)
+refusal_in_slot call a (Some b) = refusal_of_call call a b.feed b.content
 
 abbrev pub removal_refusal_in_slot : Option BufferState → Option Name
 removal_refusal_in_slot None = Some NotFound
@@ -95,9 +82,8 @@ abbrev pub result_on_slot : ℕ → Moment → (Option BufferState → SlotResul
 result_on_slot k d call bs = result_by_slot (slice_get bs k) call d k bs
 
 -- a call on the buffer of a number; where it was removed the call is refused too
-abbrev pub result_on_buffer : ℕ → Name → Moment → (Feed → Content → CallResult) → BufferStates
-    → BuffersResult
-result_on_buffer k name d call bs = result_on_slot k d (call_in_slot name d call) bs
+abbrev pub result_on_buffer : ℕ → CallView → Surroundings → BufferStates → BuffersResult
+result_on_buffer k call a bs = result_on_slot k a.duration (call_in_slot call a) bs
 
 abbrev pub removal_result : ℕ → Surroundings → BufferStates → BuffersResult
 removal_result k a bs = result_on_slot k a.duration (removal_in_slot a) bs
@@ -112,16 +98,8 @@ abbrev pub refusal_on_slot : ℕ → (Option BufferState → Option Name) → Bu
 refusal_on_slot k refusal bs = refusal_by_slot (slice_get bs k) refusal
 
 -- the same of a call on the buffer of a number
-abbrev pub refusal_on_buffer : ℕ → Name → (Feed → Content → Option Name) → BufferStates
-    → Option Name
-refusal_on_buffer k name refusal bs = refusal_on_slot k (refusal_in_slot name refusal) bs
-
--- a call on one buffer, and the names of its refusals, by what stands around the buffer
-abbrev pub BufferCall : Type 0
-BufferCall = Surroundings → Feed → Content → CallResult
-
-abbrev pub BufferRefusal : Type 0
-BufferRefusal = Surroundings → Feed → Content → Option Name
+abbrev pub refusal_on_buffer : ℕ → CallView → Surroundings → BufferStates → Option Name
+refusal_on_buffer k call a bs = refusal_on_slot k (refusal_in_slot call a) bs
 
 abbrev pub buffers_turn_of : ℕ → BufferStates → Option SlotResult → Option BuffersResult
 buffers_turn_of k bs None = None
@@ -156,23 +134,11 @@ abbrev pub IsSlotAnswer : Option KeptBuffer → Reply → Option KeptBuffer
 IsSlotAnswer old reply new call =
     (s : Option BufferState) → IsSlotStanding old s → IsSlotResult reply new (call s)
 
-abbrev pub IsSlotAnswerIfOk : {E : Type 0} → Option KeptBuffer → Result Reply E → Option KeptBuffer
-    → (Option BufferState → SlotResult) → Type 0
-IsSlotAnswerIfOk old result new call =
-    (s : Option BufferState) → IsSlotStanding old s
-    → IfOk result (λ reply. IsSlotResult reply new (call s))
-
 -- for whatever buffers all slots stood for
 abbrev pub IsBuffersAnswer : KeptBuffers → Reply → KeptBuffers → (BufferStates → BuffersResult)
     → Type 0
 IsBuffersAnswer old reply new call =
     (bs : BufferStates) → AreSlotsStanding old bs → IsBuffersResult reply new (call bs)
-
-abbrev pub IsBuffersAnswerIfOk : {E : Type 0} → KeptBuffers → Result Reply E → KeptBuffers
-    → (BufferStates → BuffersResult) → Type 0
-IsBuffersAnswerIfOk old result new call =
-    (bs : BufferStates) → AreSlotsStanding old bs
-    → IfOk result (λ reply. IsBuffersResult reply new (call bs))
 
 -- something ran, or nothing did
 abbrev pub IsSlotTurn : Turned → Option KeptBuffer → Option SlotResult → Type 0
@@ -186,16 +152,3 @@ IsBuffersTurn (Did reply) kept None = ⊥
 IsBuffersTurn (Did reply) kept (Some result) = IsBuffersResult reply kept result
 IsBuffersTurn Idle kept None = Unit {0}
 IsBuffersTurn Idle kept (Some result) = ⊥
-
--- for whatever buffers all slots stood for
-abbrev pub IsBuffersTurnIfOk : {E : Type 0} → KeptBuffers → Result Turned E → KeptBuffers
-    → (BufferStates → Option BuffersResult) → Type 0
-IsBuffersTurnIfOk old result new turn =
-    (bs : BufferStates) → AreSlotsStanding old bs
-    → IfOk result (λ turned. IsBuffersTurn turned new (turn bs))
-
-abbrev pub IsSlotTurnIfOk : {E : Type 0} → Option KeptBuffer → Result Turned E → Option KeptBuffer
-    → (Option BufferState → Option SlotResult) → Type 0
-IsSlotTurnIfOk old result new turn =
-    (s : Option BufferState) → IsSlotStanding old s
-    → IfOk result (λ turned. IsSlotTurn turned new (turn s))

@@ -2,6 +2,7 @@
 use Rattle.std.specs.Prelude.{ℕ, ℤ, List, [], ◌∷◌, map, slice_get, Option, Some, None}
 use Rattle.std.specs.Option.{option_flatten}
 use Rattle.mse_types.specs.declared.answer.Container.{Container}
+use Rattle.byte_stream.specs.Streams.{HasReading}
 use Rattle.track_buffers.specs.Media.{Media}
 use Rattle.track_buffers.specs.Settings.{new_media}
 use Rattle.buffer_state.specs.declared.running.Running.{Running}
@@ -50,6 +51,16 @@ AreSlotsStanding [] [] = Unit {0}
 AreSlotsStanding [] (b ∷ bs) = ⊥
 AreSlotsStanding (k ∷ ks) [] = ⊥
 AreSlotsStanding (k ∷ ks) (b ∷ bs) = IsSlotStanding k b × AreSlotsStanding ks bs
+
+-- it stands for some buffers
+pub record HasStates (ks : KeptBuffers) : Type 0 where
+  pub buffers : BufferStates
+  pub stand : AreSlotsStanding ks buffers
+
+-- the buffer in a slot stands for some string
+abbrev pub HasSlotReading : Option KeptBuffer → Type 0
+HasSlotReading None = Unit {0}
+HasSlotReading (Some k) = HasReading k.stream
 
 -- ---- the parts of the buffers that are kept as they are
 

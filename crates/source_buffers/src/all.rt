@@ -3,13 +3,15 @@
 ghost use Rattle.std.specs.Prelude.{◌≡◌, ◌<◌, ◌≤◌, ◌^◌, length, slice_get, option_copied, option_map, IfSome};
 ghost use Rattle.std.specs.List.{list_any};
 ghost use Rattle.track_buffers.specs.Frames.{highest_start_in, highest_end_in};
-ghost use Rattle.source_buffers.specs.State.{all_kept_media, all_kept_running, kept_media, kept_running};
-ghost use Rattle.source_buffers.specs.All.{AreSound, IsSoundSlot, are_initialized, greatest_of_all, highest_end_of_all, is_initialized_slot, is_updating_at, is_updating_slot, lowest_running, ready_of_buffer, slot_ready, slot_times};
+ghost use Rattle.source_buffers.specs.State.{HasSlotReading, HasStates, all_kept_media, all_kept_running, kept_media, kept_running};
+ghost use Rattle.source_buffers.specs.All.{AreSound, IsSoundSlot, are_initialized, greatest_of_all, highest_end_of_all, is_initialized_slot, is_updating_at, is_updating_slot, lowest_running, most_changes_in_slot, most_changes_of, slot_times};
 ghost use Rattle.source_buffers.specs.Buffered.{slot_track, track_at};
 ghost use Rattle.mse_base.specs.Moments.{greatest};
 ghost use Rattle.track_store.specs.State.{state_of};
+ghost use Rattle.buffer_state.specs.AllCalls.{call_at};
+ghost use Rattle.buffer_state.specs.declared.buffer_context.BufferContext.{BufferContext};
 
-use buffer_state::Buffer;
+use buffer_state::{Buffer, BufferCall};
 use mse_base::Ticks;
 use track_store::{FrameStore, Track};
 
@@ -69,24 +71,30 @@ pub(crate) fn lowest_running<S: FrameStore>(slots: &Vec<Option<Buffer<S>>>) -> O
     None
 }
 
-/// How many of the next items of the buffer in a slot are coded frames.
-fn slot_ready<S: FrameStore>(slot: &Option<Buffer<S>>) -> usize
-    ensures ready { result ≡ slot_ready slot.now }
+/// How often a call on the buffer in a slot changes the duration at most.
+fn most_changes_in<S: FrameStore>(slot: &Option<Buffer<S>>, call: &BufferCall) -> usize
+    ensures most { (a : BufferContext) → result
+        ≡ most_changes_in_slot (call_at a call.now) slot.now }
     ensures few { result ≤ 2 ^ 20 }
 {
     match slot {
-        Some(buffer) => buffer.ready_frames(),
+        Some(buffer) => buffer.most_changes(call),
         None => 0,
     }
 }
 
-/// How many of the next items of the buffer of a number are coded frames; 0 where no buffer is.
-pub(crate) fn ready_frames<S: FrameStore>(slots: &Vec<Option<Buffer<S>>>, k: usize) -> usize
-    ensures ready { result ≡ ready_of_buffer k slots.now.items }
+/// How often a call on the buffer of a number changes the duration at most; 0 where no buffer is.
+pub(crate) fn most_changes<S: FrameStore>(
+    slots: &Vec<Option<Buffer<S>>>,
+    k: usize,
+    call: &BufferCall,
+) -> usize
+    ensures most { (a : BufferContext) → result ≡ most_changes_of k (call_at a call.now)
+        slots.now.items }
     ensures few { result ≤ 2 ^ 20 }
 {
     match slot_at(slots, k) {
-        Some(slot) => slot_ready(slot),
+        Some(slot) => most_changes_in(slot, call),
         None => 0,
     }
 }
@@ -177,23 +185,25 @@ pub(crate) fn highest_end<S: FrameStore>(slots: &Vec<Option<Buffer<S>>>) -> Opti
     best
 }
 
-/// Each track buffer of the buffer in a slot is sound. It does nothing when it runs.
+/// Each track buffer of the buffer in a slot is sound, and the slot stands for a state. It does nothing when it runs.
 fn sound_slot<S: FrameStore>(slot: &Option<Buffer<S>>)
-    ensures { IsSoundSlot (kept_media slot.now) }
+    ensures sound { IsSoundSlot (kept_media slot.now) }
+    ensures stands { HasSlotReading slot.now }
 {
     match slot {
-        // The proof reads off this that the tracks of the buffer are sound.
+        // The proof reads off this that the tracks of the buffer are sound, and what it stands for.
         Some(buffer) => buffer.sound(),
         None => {}
     }
 }
 
-/// Each track buffer of each buffer is sound. It does nothing when it runs.
+/// Each track buffer of each buffer is sound, and the slots stand for some states. It does nothing when it runs.
 pub(crate) fn sound<S: FrameStore>(slots: &Vec<Option<Buffer<S>>>)
-    ensures { AreSound (all_kept_media slots.now.items) }
+    ensures sound { AreSound (all_kept_media slots.now.items) }
+    ensures stands { HasStates slots.now.items }
 {
     for slot in slots {
-        // The proof reads off this that the tracks of this slot are sound.
+        // The proof reads off this that the tracks of this slot are sound, and what it stands for.
         sound_slot(slot);
     }
 }

@@ -1,20 +1,20 @@
-ghost use Rattle.std.specs.Prelude.{◌≡◌, ◌+◌, ◌<◌, ◌≤◌, ◌^◌, ◌≤ℤ◌, pos, nat_lt, false, [], ◌∷◌, ◌++◌, length, Some, option_map, option_copied, IfOk, OnOk, OnErr};
+ghost use Rattle.std.specs.Prelude.{◌≡◌, ◌+◌, ◌<◌, ◌≤◌, ◌^◌, ◌≤ℤ◌, pos, nat_lt, [], ◌∷◌, ◌++◌, length, vec_capacity, Some, option_map, option_copied, IfOk, OnOk, OnErr};
 ghost use Rattle.mse_base.specs.declared.ticks.Moment.{Moment};
 ghost use Rattle.track_store.specs.State.{state_of};
-ghost use Rattle.track_buffers.specs.Media.{IsNotAfter};
-ghost use Rattle.buffer_state.specs.State.{surroundings, append_input};
-ghost use Rattle.buffer_state.specs.Replies.{IfDid, changes_of};
-ghost use Rattle.buffer_state.specs.Calls.{mode_refusal, mode_result, offset_refusal, offset_result, window_start_refusal, window_start_result, window_end_refusal, window_end_result, remove_refusal, remove_result, append_refusal, append_result, abort_refusal, abort_result, change_type_refusal, change_type_result};
-ghost use Rattle.source_buffers.specs.State.{BufferStates, AreSlotsStanding, all_kept_media, all_kept_running, new_buffer};
-ghost use Rattle.source_buffers.specs.Slots.{IsBuffersAnswer, IsBuffersAnswerIfOk, IsBuffersTurnIfOk, result_on_buffer, refusal_on_buffer, refusal_on_slot, removal_refusal_in_slot, removal_result, removed_type_name, buffers_turn};
-ghost use Rattle.source_buffers.specs.All.{AreSlotsWithin, AreStillWithin, AreFewer, AreIdle, AreSound, all_buffers, are_initialized, is_updating_at, lowest_running, ready_of_buffer};
-ghost use Rattle.source_buffers.specs.Buffered.{AreRangesAfterInit, buffered_at, element_ranges, element_span, track_at};
+ghost use Rattle.buffer_state.specs.State.{surroundings};
+ghost use Rattle.buffer_state.specs.AllCalls.{call_at};
+ghost use Rattle.buffer_state.specs.declared.buffer_context.BufferContext.{BufferContext};
+ghost use Rattle.source_buffers.specs.State.{BufferStates, AreSlotsStanding, HasStates, all_kept_media, all_kept_running, new_buffer};
+ghost use Rattle.source_buffers.specs.Slots.{refusal_on_buffer, refusal_on_slot, removal_in_slot, removal_refusal_in_slot, removal_result};
+ghost use Rattle.source_buffers.specs.Done.{IsCallDoneInAll, IsCallDoneInSlot, IsDoneInAll, IsDoneInSlot, IsTurnDoneInAll, IsTurnDoneInSlot};
+ghost use Rattle.source_buffers.specs.All.{AreSlotsWithin, AreSound, all_buffers, are_initialized, is_updating_at, lowest_running, most_changes_of};
+ghost use Rattle.source_buffers.specs.Buffered.{buffered_at, element_ranges, element_span, track_at};
 ghost use Rattle.source_buffers.specs.Views.{buffer_views};
 
-use crate::{all, element, slots, views};
-use buffer_state::{Around, Buffer, Container, Reply, Turned};
-use mse_base::{Bytes, Moment, OutOfMemory, Ranges, Span, Ticks};
-use mse_calls::{BufferView, Mode, Name};
+use crate::{all, element, views};
+use buffer_state::{Buffer, BufferCall, BufferContext, Container, Reply, Turned};
+use mse_base::{OutOfMemory, Ranges, Span, Ticks};
+use mse_calls::{BufferView, Name};
 use source_state::AllBuffers;
 use std::alloc::Global;
 use std::marker::Model;
@@ -92,205 +92,69 @@ impl<S: FrameStore> SourceBuffers<S> {
     /// append or a removal that runs is aborted, and what the buffer holds goes.
     ///
     /// NoSuchBuffer where no buffer was ever made with the number; NotFound where it was removed.
-    pub fn remove(&mut self, k: u32, around: &Around) -> Reply
-        ensures answered { IsBuffersAnswer self.old.buffers result self.new.buffers
-            (removal_result k (surroundings around.now)) }
-        ensures within_duration { AreStillWithin around.now.duration self.old.buffers result
-            self.new.buffers }
-        ensures changes { result.duration_changes ≡ 0 }
-        ensures duration { result.duration ≡ around.now.duration }
-        ensures no_init { result.received_init ≡ false }
+    pub fn remove(&mut self, k: u32, around: &BufferContext) -> Reply
+        ensures done { IsDoneInAll (removal_result k (surroundings around.now)) 0
+            around.now.duration self.old.buffers result self.new.buffers }
         ensures len { length self.new.buffers ≡ length self.old.buffers }
         ensures spare { self.new.spare ≡ self.old.spare }
     {
-        slots::remove(&mut self.slots, k, around)
+        remove_by_number(&mut self.slots, k, around)
     }
 
-    /// Sets the append mode of the buffer of a number (Media Source Extensions, 3.1, `mode`).
+    /// Makes a call on the buffer of a number. It takes its memory first; an `Err` changes nothing.
     ///
-    /// NoSuchBuffer where no buffer was ever made with the number; InvalidState where it was
-    /// removed; and then as [`Buffer::set_mode`].
-    pub fn set_mode(&mut self, k: u32, mode: Mode, around: &Around) -> Reply
-        ensures answered { IsBuffersAnswer self.old.buffers result self.new.buffers
-            (result_on_buffer k Name.InvalidState around.now.duration
-            (mode_result mode (surroundings around.now))) }
-        ensures within_duration { AreStillWithin around.now.duration self.old.buffers result
-            self.new.buffers }
-        ensures changes { result.duration_changes ≡ 0 }
-        ensures duration { result.duration ≡ around.now.duration }
-        ensures no_init { result.received_init ≡ false }
-        ensures len { length self.new.buffers ≡ length self.old.buffers }
-        ensures spare { self.new.spare ≡ self.old.spare }
-    {
-        slots::set_mode(&mut self.slots, k, mode, around)
-    }
-
-    /// Sets the timestamp offset of the buffer of a number, in ticks (Media Source Extensions, 3.1,
-    /// `timestampOffset`).
-    ///
-    /// NoSuchBuffer where no buffer was ever made with the number; InvalidState where it was
-    /// removed; and then as [`Buffer::set_offset`].
-    pub fn set_offset(&mut self, k: u32, t: Ticks, around: &Around) -> Reply
-        ensures answered { IsBuffersAnswer self.old.buffers result self.new.buffers
-            (result_on_buffer k Name.InvalidState around.now.duration
-            (offset_result t (surroundings around.now))) }
-        ensures within_duration { AreStillWithin around.now.duration self.old.buffers result
-            self.new.buffers }
-        ensures changes { result.duration_changes ≡ 0 }
-        ensures duration { result.duration ≡ around.now.duration }
-        ensures no_init { result.received_init ≡ false }
-        ensures len { length self.new.buffers ≡ length self.old.buffers }
-        ensures spare { self.new.spare ≡ self.old.spare }
-    {
-        slots::set_offset(&mut self.slots, k, t, around)
-    }
-
-    /// Sets the start of the append window of the buffer of a number, in ticks (Media Source
-    /// Extensions, 3.1, `appendWindowStart`).
-    ///
-    /// NoSuchBuffer where no buffer was ever made with the number; InvalidState where it was
-    /// removed; and then as [`Buffer::set_window_start`].
-    pub fn set_window_start(&mut self, k: u32, t: Ticks, around: &Around) -> Reply
-        ensures answered { IsBuffersAnswer self.old.buffers result self.new.buffers
-            (result_on_buffer k Name.InvalidState around.now.duration
-            (window_start_result t (surroundings around.now))) }
-        ensures within_duration { AreStillWithin around.now.duration self.old.buffers result
-            self.new.buffers }
-        ensures changes { result.duration_changes ≡ 0 }
-        ensures duration { result.duration ≡ around.now.duration }
-        ensures no_init { result.received_init ≡ false }
-        ensures len { length self.new.buffers ≡ length self.old.buffers }
-        ensures spare { self.new.spare ≡ self.old.spare }
-    {
-        slots::set_window_start(&mut self.slots, k, t, around)
-    }
-
-    /// Sets the end of the append window of the buffer of a number, in ticks (Media Source
-    /// Extensions, 3.1, `appendWindowEnd`).
-    ///
-    /// NoSuchBuffer where no buffer was ever made with the number; InvalidState where it was
-    /// removed; and then as [`Buffer::set_window_end`].
-    pub fn set_window_end(&mut self, k: u32, t: Moment, around: &Around) -> Reply
-        ensures answered { IsBuffersAnswer self.old.buffers result self.new.buffers
-            (result_on_buffer k Name.InvalidState around.now.duration
-            (window_end_result t (surroundings around.now))) }
-        ensures within_duration { AreStillWithin around.now.duration self.old.buffers result
-            self.new.buffers }
-        ensures changes { result.duration_changes ≡ 0 }
-        ensures duration { result.duration ≡ around.now.duration }
-        ensures no_init { result.received_init ≡ false }
-        ensures len { length self.new.buffers ≡ length self.old.buffers }
-        ensures spare { self.new.spare ≡ self.old.spare }
-    {
-        slots::set_window_end(&mut self.slots, k, t, around)
-    }
-
-    /// Begins a removal at the buffer of a number, from `start` on and before `end`, in ticks
-    /// (Media Source Extensions, 3.2, `remove`).
-    ///
-    /// NoSuchBuffer where no buffer was ever made with the number; InvalidState where it was
-    /// removed; and then as [`Buffer::remove`].
-    pub fn remove_frames(&mut self, k: u32, start: Ticks, end: Moment, around: &Around) -> Reply
-        ensures answered { IsBuffersAnswer self.old.buffers result self.new.buffers
-            (result_on_buffer k Name.InvalidState around.now.duration
-            (remove_result start end (surroundings around.now))) }
-        ensures within_duration { AreStillWithin around.now.duration self.old.buffers result
-            self.new.buffers }
-        ensures changes { result.duration_changes ≡ 0 }
-        ensures duration { result.duration ≡ around.now.duration }
-        ensures no_init { result.received_init ≡ false }
-        ensures len { length self.new.buffers ≡ length self.old.buffers }
-        ensures spare { self.new.spare ≡ self.old.spare }
-    {
-        slots::remove_frames(&mut self.slots, k, start, end, around)
-    }
-
-    /// Begins an append of bytes to the buffer of a number (Media Source Extensions, 3.2,
-    /// `appendBuffer`). It takes its memory first; an `Err` changes nothing.
-    ///
-    /// NoSuchBuffer where no buffer was ever made with the number; InvalidState where it was
-    /// removed; and then as [`Buffer::append`].
-    pub fn append(&mut self, k: u32, bytes: &Bytes, around: &Around) -> Result<Reply, OutOfMemory>
-        ensures answered { IsBuffersAnswerIfOk self.old.buffers result self.new.buffers
-            (result_on_buffer k Name.InvalidState around.now.duration
-            (append_result (append_input bytes.now around.now) (surroundings around.now))) }
-        ensures within_duration { IfOk result (λ reply.
-            AreStillWithin around.now.duration self.old.buffers reply self.new.buffers) }
-        ensures changes { IfOk result (λ reply. reply.duration_changes ≡ 0) }
-        ensures duration { IfOk result (λ reply. reply.duration ≡ around.now.duration) }
-        ensures no_init { IfOk result (λ reply. reply.received_init ≡ false) }
+    /// NoSuchBuffer where no buffer was ever made with the number; where it was removed
+    /// [`BufferCall::removed_name`]; and then as [`Buffer::call`].
+    pub fn call(
+        &mut self,
+        k: u32,
+        call: &BufferCall,
+        around: &BufferContext,
+    ) -> Result<Reply, OutOfMemory>
+        ensures done { IfOk result (λ reply. IsCallDoneInAll k (call_at around.now call.now)
+            (surroundings around.now) self.old.buffers reply self.new.buffers) }
         ensures len { length self.new.buffers ≡ length self.old.buffers }
         ensures spare { self.new.spare ≡ self.old.spare }
         ensures err { OnErr result (self.new ≡ self.old) }
     {
-        slots::append(&mut self.slots, k, bytes, around)
+        call_by_number(&mut self.slots, k, call, around)
     }
 
-    /// Aborts an append of the buffer of a number, and resets its parser (Media Source Extensions,
-    /// 3.2, `abort`). It takes its memory first; an `Err` changes nothing.
-    ///
-    /// NoSuchBuffer where no buffer was ever made with the number; InvalidState where it was
-    /// removed; and then as [`Buffer::abort`].
-    pub fn abort(&mut self, k: u32, around: &Around) -> Result<Reply, OutOfMemory>
-        ensures answered { IsBuffersAnswerIfOk self.old.buffers result self.new.buffers
-            (result_on_buffer k Name.InvalidState around.now.duration
-            (abort_result (surroundings around.now))) }
-        ensures within_duration { IfOk result (λ reply.
-            AreStillWithin around.now.duration self.old.buffers reply self.new.buffers) }
-        ensures changes { IfOk result
-            (λ reply. reply.duration_changes ≤ ready_of_buffer k self.old.buffers) }
-        ensures no_fall { IfOk result (λ reply. IsNotAfter around.now.duration reply.duration) }
-        ensures no_init { IfOk result (λ reply. reply.received_init ≡ false) }
-        ensures len { length self.new.buffers ≡ length self.old.buffers }
-        ensures spare { self.new.spare ≡ self.old.spare }
-        ensures err { OnErr result (self.new ≡ self.old) }
+    /// The name by which [`call`](Self::call) would be refused before anything comes of it, if it
+    /// would. It takes no memory.
+    pub fn refusal_of(&self, k: u32, call: &BufferCall, around: &BufferContext) -> Option<Name>
+        ensures { (bs : BufferStates) → AreSlotsStanding self.now.buffers bs
+            → result ≡ refusal_on_buffer k (call_at around.now call.now)
+            (surroundings around.now) bs }
     {
-        slots::abort(&mut self.slots, k, around)
+        match all::slot_at(&self.slots, k as usize) {
+            Some(Some(buffer)) => buffer.refusal_of(call, around),
+            Some(None) => Some(call.removed_name()),
+            None => Some(Name::NoSuchBuffer),
+        }
     }
 
-    /// Resets the parser of the buffer of a number and changes its byte stream format to that of a
-    /// type (Media Source Extensions, second edition, `changeType`). It takes its memory first; an
-    /// `Err` changes nothing.
-    ///
-    /// NoSuchBuffer where no buffer was ever made with the number; TypeError where the type is
-    /// empty; InvalidState where the buffer was removed; and then as [`Buffer::change_type`].
-    pub fn change_type(&mut self, k: u32, text: &str, around: &Around) -> Result<Reply, OutOfMemory>
-        ensures answered { IsBuffersAnswerIfOk self.old.buffers result self.new.buffers
-            (result_on_buffer k (removed_type_name text.now) around.now.duration
-            (change_type_result text.now (surroundings around.now))) }
-        ensures within_duration { IfOk result (λ reply.
-            AreStillWithin around.now.duration self.old.buffers reply self.new.buffers) }
-        ensures changes { IfOk result
-            (λ reply. reply.duration_changes ≤ ready_of_buffer k self.old.buffers) }
-        ensures no_fall { IfOk result (λ reply. IsNotAfter around.now.duration reply.duration) }
-        ensures no_init { IfOk result (λ reply. reply.received_init ≡ false) }
-        ensures len { length self.new.buffers ≡ length self.old.buffers }
-        ensures spare { self.new.spare ≡ self.old.spare }
-        ensures err { OnErr result (self.new ≡ self.old) }
+    /// How often a call on the buffer of a number changes the duration at most: a reset of the
+    /// parser once for each coded frame that is ready, of which there are at most `2^20`.
+    pub fn most_changes(&self, k: u32, call: &BufferCall) -> usize
+        ensures most { (a : BufferContext) → result ≡ most_changes_of k (call_at a call.now)
+            self.now.buffers }
+        ensures few { result ≤ 2 ^ 20 }
     {
-        slots::change_type(&mut self.slots, k, text, around)
+        all::most_changes(&self.slots, k as usize, call)
     }
 
     /// One step of the work of the buffer of a number: the next item of an append or its end, or
     /// the whole of a removal; `Idle` exactly where nothing runs there, also where no buffer is. It
     /// takes its memory first; an `Err` changes nothing.
-    pub fn turn(&mut self, k: u32, around: &Around) -> Result<Turned, OutOfMemory>
-        ensures turned { IsBuffersTurnIfOk self.old.buffers result self.new.buffers
-            (buffers_turn k (surroundings around.now)) }
-        ensures idle { IfOk result (λ turned. AreIdle turned k self.old.buffers self.new.buffers) }
-        ensures fewer { IfOk result (λ turned. AreFewer turned self.old.buffers self.new.buffers) }
-        ensures changes { IfOk result (λ turned. changes_of turned ≤ 1) }
-        ensures within_duration { IfOk result (λ turned. IfDid turned (λ reply.
-            AreStillWithin around.now.duration self.old.buffers reply self.new.buffers)) }
-        ensures no_fall { IfOk result (λ turned. IfDid turned
-            (λ reply. IsNotAfter around.now.duration reply.duration)) }
-        ensures ranges { IfOk result (λ turned. IfDid turned
-            (λ reply. AreRangesAfterInit k self.old.buffers reply self.new.buffers)) }
+    pub fn turn(&mut self, k: u32, around: &BufferContext) -> Result<Turned, OutOfMemory>
+        ensures done { IfOk result (λ turned. IsTurnDoneInAll k (surroundings around.now)
+            self.old.buffers turned self.new.buffers) }
         ensures len { length self.new.buffers ≡ length self.old.buffers }
         ensures spare { self.new.spare ≡ self.old.spare }
         ensures err { OnErr result (self.new ≡ self.old) }
     {
-        slots::turn(&mut self.slots, k, around)
+        turn_by_number(&mut self.slots, k, around)
     }
 
     /// The name by which [`remove`](Self::remove) would be refused, if it would.
@@ -298,87 +162,11 @@ impl<S: FrameStore> SourceBuffers<S> {
         ensures { (bs : BufferStates) → AreSlotsStanding self.now.buffers bs
             → result ≡ refusal_on_slot k removal_refusal_in_slot bs }
     {
-        slots::removal_refusal(&self.slots, k)
-    }
-
-    /// The name by which [`set_mode`](Self::set_mode) would be refused before anything comes of it,
-    /// if it would.
-    pub fn mode_refusal(&self, k: u32, mode: Mode, around: &Around) -> Option<Name>
-        ensures { (bs : BufferStates) → AreSlotsStanding self.now.buffers bs
-            → result ≡ refusal_on_buffer k Name.InvalidState
-            (mode_refusal mode (surroundings around.now)) bs }
-    {
-        slots::mode_refusal(&self.slots, k, mode, around)
-    }
-
-    /// The name by which [`set_offset`](Self::set_offset) would be refused before anything comes of
-    /// it, if it would.
-    pub fn offset_refusal(&self, k: u32, around: &Around) -> Option<Name>
-        ensures { (bs : BufferStates) → AreSlotsStanding self.now.buffers bs
-            → result ≡ refusal_on_buffer k Name.InvalidState
-            (λ f c. offset_refusal (surroundings around.now) f) bs }
-    {
-        slots::offset_refusal(&self.slots, k, around)
-    }
-
-    /// The name by which [`set_window_start`](Self::set_window_start) would be refused, if it
-    /// would.
-    pub fn window_start_refusal(&self, k: u32, t: Ticks) -> Option<Name>
-        ensures { (bs : BufferStates) → AreSlotsStanding self.now.buffers bs
-            → result ≡ refusal_on_buffer k Name.InvalidState (window_start_refusal t) bs }
-    {
-        slots::window_start_refusal(&self.slots, k, t)
-    }
-
-    /// The name by which [`set_window_end`](Self::set_window_end) would be refused, if it would.
-    pub fn window_end_refusal(&self, k: u32, t: Moment) -> Option<Name>
-        ensures { (bs : BufferStates) → AreSlotsStanding self.now.buffers bs
-            → result ≡ refusal_on_buffer k Name.InvalidState (window_end_refusal t) bs }
-    {
-        slots::window_end_refusal(&self.slots, k, t)
-    }
-
-    /// The name by which [`remove_frames`](Self::remove_frames) would be refused, if it would.
-    pub fn remove_frames_refusal(
-        &self,
-        k: u32,
-        start: Ticks,
-        end: Moment,
-        around: &Around,
-    ) -> Option<Name>
-        ensures { (bs : BufferStates) → AreSlotsStanding self.now.buffers bs
-            → result ≡ refusal_on_buffer k Name.InvalidState
-            (λ f c. remove_refusal start end (surroundings around.now) f) bs }
-    {
-        slots::remove_frames_refusal(&self.slots, k, start, end, around)
-    }
-
-    /// The name by which [`append`](Self::append) would be refused before coded frames are evicted,
-    /// if it would.
-    pub fn append_refusal(&self, k: u32, around: &Around) -> Option<Name>
-        ensures { (bs : BufferStates) → AreSlotsStanding self.now.buffers bs
-            → result ≡ refusal_on_buffer k Name.InvalidState
-            (λ f c. append_refusal (surroundings around.now) f) bs }
-    {
-        slots::append_refusal(&self.slots, k, around)
-    }
-
-    /// The name by which [`abort`](Self::abort) would be refused, if it would.
-    pub fn abort_refusal(&self, k: u32, around: &Around) -> Option<Name>
-        ensures { (bs : BufferStates) → AreSlotsStanding self.now.buffers bs
-            → result ≡ refusal_on_buffer k Name.InvalidState
-            (λ f c. abort_refusal (surroundings around.now) f) bs }
-    {
-        slots::abort_refusal(&self.slots, k, around)
-    }
-
-    /// The name by which [`change_type`](Self::change_type) would be refused, if it would.
-    pub fn change_type_refusal(&self, k: u32, text: &str) -> Option<Name>
-        ensures { (bs : BufferStates) → AreSlotsStanding self.now.buffers bs
-            → result ≡ refusal_on_buffer k (removed_type_name text.now)
-            (λ f c. change_type_refusal text.now f) bs }
-    {
-        slots::change_type_refusal(&self.slots, k, text)
+        match all::slot_at(&self.slots, k as usize) {
+            Some(Some(_)) => None,
+            Some(None) => Some(Name::NotFound),
+            None => Some(Name::NoSuchBuffer),
+        }
     }
 
     /// Whether a buffer was ever made with the number.
@@ -393,16 +181,6 @@ impl<S: FrameStore> SourceBuffers<S> {
         ensures { result ≡ is_updating_at k (all_kept_running self.now.buffers) }
     {
         all::is_updating_at(&self.slots, k as usize)
-    }
-
-    /// How many of the next items of the buffer of a number are coded frames, up to the first that
-    /// is none; 0 where no buffer is, and at most `2^20`, since a moof has no more samples. An abort
-    /// and a change of the type change the duration at most so many times.
-    pub fn ready_frames(&self, k: u32) -> usize
-        ensures ready { result ≡ ready_of_buffer k self.now.buffers }
-        ensures few { result ≤ 2 ^ 20 }
-    {
-        all::ready_frames(&self.slots, k as usize)
     }
 
     /// What a media source is told of all buffers in its list.
@@ -480,11 +258,117 @@ impl<S: FrameStore> SourceBuffers<S> {
 
     /// Each track buffer of each buffer is sound: each frame that it holds is a random access
     /// point, or the frame received just before it is held too. And the gap across which ranges
-    /// join is not negative. It does nothing when it runs.
+    /// join is not negative. The slots stand for some states of the buffers, of which the clauses of
+    /// the calls speak. It does nothing when it runs.
     pub fn sound(&self)
-        ensures { AreSound (all_kept_media self.now.buffers) }
+        ensures sound { AreSound (all_kept_media self.now.buffers) }
+        ensures stands { HasStates self.now.buffers }
     {
-        // The proof reads off this that the tracks of each slot are sound.
+        // The proof reads off this that the tracks of each slot are sound, and what the slot stands for.
         all::sound(&self.slots);
+    }
+}
+
+// ---- one slot
+
+/// Makes a call on the buffer in a slot.
+fn call_slot<S: FrameStore>(
+    slot: &mut Option<Buffer<S>>,
+    call: &BufferCall,
+    around: &BufferContext,
+) -> Result<Reply, OutOfMemory>
+    ensures done { IfOk result (λ reply. IsCallDoneInSlot (call_at around.now call.now)
+        (surroundings around.now) slot.old reply slot.new) }
+    ensures err { OnErr result (slot.new ≡ slot.old) }
+{
+    match slot {
+        Some(buffer) => buffer.call(call, around),
+        None => Ok(Reply::refused(call.removed_name(), false, &around.duration)),
+    }
+}
+
+/// Ends running work, and removes the buffer.
+fn remove_slot<S: FrameStore>(slot: &mut Option<Buffer<S>>, around: &BufferContext) -> Reply
+    ensures { IsDoneInSlot (removal_in_slot (surroundings around.now)) 0 around.now.duration
+        slot.old result slot.new }
+{
+    match slot {
+        Some(buffer) => {
+            let reply = buffer.end_work(around);
+            *slot = None;
+            reply
+        }
+        None => Reply::refused(Name::NotFound, false, &around.duration),
+    }
+}
+
+/// One step of the work that runs.
+fn turn_slot<S: FrameStore>(
+    slot: &mut Option<Buffer<S>>,
+    around: &BufferContext,
+) -> Result<Turned, OutOfMemory>
+    ensures done { IfOk result (λ turned. IsTurnDoneInSlot (surroundings around.now) slot.old
+        turned slot.new) }
+    ensures err { OnErr result (slot.new ≡ slot.old) }
+{
+    match slot {
+        Some(buffer) => buffer.turn(around),
+        None => Ok(Turned::Idle),
+    }
+}
+
+// ---- the slot of a number
+
+/// Ends running work of the buffer of a number, and removes the buffer.
+fn remove_by_number<S: FrameStore>(
+    slots: &mut Vec<Option<Buffer<S>>>,
+    k: u32,
+    around: &BufferContext,
+) -> Reply
+    ensures done { IsDoneInAll (removal_result k (surroundings around.now)) 0 around.now.duration
+        slots.old.items result slots.new.items }
+    ensures len { length slots.new.items ≡ length slots.old.items }
+    ensures capacity { vec_capacity slots.new ≡ vec_capacity slots.old }
+{
+    match slots.get_mut(k as usize) {
+        Some(slot) => remove_slot(slot, around),
+        None => Reply::refused(Name::NoSuchBuffer, false, &around.duration),
+    }
+}
+
+/// Makes a call on the buffer of a number.
+fn call_by_number<S: FrameStore>(
+    slots: &mut Vec<Option<Buffer<S>>>,
+    k: u32,
+    call: &BufferCall,
+    around: &BufferContext,
+) -> Result<Reply, OutOfMemory>
+    ensures done { IfOk result (λ reply. IsCallDoneInAll k (call_at around.now call.now)
+        (surroundings around.now) slots.old.items reply slots.new.items) }
+    ensures len { length slots.new.items ≡ length slots.old.items }
+    ensures capacity { vec_capacity slots.new ≡ vec_capacity slots.old }
+    ensures err { OnErr result (slots.new.items ≡ slots.old.items) }
+{
+    match slots.get_mut(k as usize) {
+        Some(slot) => call_slot(slot, call, around),
+        None => Ok(Reply::refused(Name::NoSuchBuffer, false, &around.duration)),
+    }
+}
+
+/// One step of the work that runs at the buffer of a number.
+fn turn_by_number<S: FrameStore>(
+    slots: &mut Vec<Option<Buffer<S>>>,
+    k: u32,
+    around: &BufferContext,
+) -> Result<Turned, OutOfMemory>
+    ensures done { IfOk result (λ turned. IsTurnDoneInAll k (surroundings around.now)
+        slots.old.items turned slots.new.items) }
+    ensures len { length slots.new.items ≡ length slots.old.items }
+    ensures capacity { vec_capacity slots.new ≡ vec_capacity slots.old }
+    ensures err { OnErr result (slots.new.items ≡ slots.old.items) }
+{
+    match slots.get_mut(k as usize) {
+        Some(slot) => turn_slot(slot, around),
+        None => Ok(Turned::Idle),
     }
 }

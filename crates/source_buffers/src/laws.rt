@@ -1,13 +1,14 @@
 //! What follows from the definitions of this crate: functions that do nothing, with the laws as
 //! their contracts.
 
-ghost use Rattle.std.specs.Prelude.{◌≡◌, ℕ, ℤ, length, List, Option, Bool, None, Some};
+ghost use Rattle.std.specs.Prelude.{◌≡◌, ◌↔◌, ℕ, ℤ, length, List, Option, Bool, None, Some};
 ghost use Rattle.mse_base.specs.declared.ticks.Moment.{Moment};
-ghost use Rattle.track_buffers.specs.Media.{Media, IsNotAfter};
+ghost use Rattle.mse_base.specs.Moments.{IsNotAfter};
+ghost use Rattle.track_buffers.specs.Media.{Media};
 ghost use Rattle.mse_calls.specs.declared.answers.Name.{Name};
 ghost use Rattle.buffer_state.specs.State.{Surroundings};
-ghost use Rattle.buffer_state.specs.Replies.{AreRefusalsTold};
-ghost use Rattle.source_buffers.specs.Slots.{BufferCall, BufferRefusal, refusal_on_buffer, result_on_buffer, refused_buffers};
+ghost use Rattle.buffer_state.specs.AllCalls.{CallView, IsForQuota};
+ghost use Rattle.source_buffers.specs.Slots.{refusal_on_buffer, result_on_buffer, refused_buffers};
 ghost use Rattle.source_buffers.specs.State.{BufferStates, KeptBuffers, AreSlotsStanding, media_of_all, all_kept_media, running_of_all, all_kept_running};
 ghost use Rattle.source_buffers.specs.All.{AreSlotsWithin, AreSound, highest_end_of_all};
 ghost use Rattle.source_buffers.specs.Buffered.{IsElementBuffered};
@@ -30,8 +31,8 @@ pub fn within_duration()
         → AreSlotsWithin d ms → AreSlotsWithin e ms }
     ensures bound { (ms : List (Option Media)) (e : ℤ) → highest_end_of_all ms ≡ Some e
         → AreSlotsWithin (Moment.At e) ms }
-    ensures none { (ms : List (Option Media)) → highest_end_of_all ms ≡ None
-        → AreSlotsWithin Moment.Nan ms }
+    ensures none { (ms : List (Option Media))
+        → (highest_end_of_all ms ≡ None) ↔ AreSlotsWithin Moment.Nan ms }
 {}
 
 /// The ranges of the element cover the ticks that the ranges of all active buffers cover.
@@ -40,16 +41,15 @@ pub fn element_law()
         → IsElementBuffered ended active ms }
 {}
 
-/// Where the names that can be asked for are those by which a call on one buffer is refused, they
-/// are on the buffer of a number: where there is one, the call is refused by it and leaves all as
-/// it was, and where a call is refused and nothing comes before it, that is the one.
+/// A call on the buffer of a number whose refusal is a name is refused by it, which leaves all as it
+/// was. A call that is refused so without such a name was an append of bytes that there are, for the
+/// quota.
 pub fn refusals()
-    ensures refused { (told : BufferRefusal) (call : BufferCall) (k : ℕ) (name n : Name)
-        (a : Surroundings) (bs : BufferStates) → AreRefusalsTold told call
-        → refusal_on_buffer k name (told a) bs ≡ Some n
-        → result_on_buffer k name a.duration (call a) bs ≡ refused_buffers n a.duration bs }
-    ensures told { (told : BufferRefusal) (call : BufferCall) (k : ℕ) (name n : Name)
-        (a : Surroundings) (bs : BufferStates) → AreRefusalsTold told call
-        → result_on_buffer k name a.duration (call a) bs ≡ refused_buffers n a.duration bs
-        → refusal_on_buffer k name (told a) bs ≡ Some n }
+    ensures refused { (call : CallView) (k : ℕ) (name : Name) (a : Surroundings) (bs : BufferStates)
+        → refusal_on_buffer k call a bs ≡ Some name
+        → result_on_buffer k call a bs ≡ refused_buffers name a.duration bs }
+    ensures told { (call : CallView) (k : ℕ) (name : Name) (a : Surroundings) (bs : BufferStates)
+        → refusal_on_buffer k call a bs ≡ None
+        → result_on_buffer k call a bs ≡ refused_buffers name a.duration bs
+        → IsForQuota call name }
 {}

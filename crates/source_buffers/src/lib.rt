@@ -15,8 +15,6 @@ mod all;
 mod buffers;
 mod element;
 pub mod laws;
-mod slot;
-mod slots;
 mod views;
 
 pub use buffers::SourceBuffers;

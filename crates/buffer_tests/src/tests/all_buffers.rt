@@ -1,9 +1,10 @@
 //! Worked examples: source buffers of ADTS frames over a plain store, each with another number of
 //! frames.
 
-use buffer_state::{Around, Container, Reply, Turned};
+use buffer_state::{BufferCall, BufferContext, Container, Reply, Turned};
 use mse_base::{Bytes, Moment, OutOfMemory, Ranges, Span, Ticks};
 use mse_calls::{Mode, Name, Ready};
+use mse_types::read_type;
 use source_buffers::SourceBuffers;
 use source_state::AllBuffers;
 use std::alloc::Global;
@@ -31,8 +32,8 @@ fn new_scene(alloc: Global) -> AllBuffersScene {
     }
 }
 
-fn around(scene: &AllBuffersScene, number: u32) -> Around {
-    Around {
+fn around(scene: &AllBuffersScene, number: u32) -> BufferContext {
+    BufferContext {
         number,
         ready: Ready::Opened,
         error: false,
@@ -62,10 +63,11 @@ fn begin(
     for _ in 0..count {
         bytes.extend_from_slice(&FRAME)?;
     }
+    let bytes = Bytes::from_vec(alloc, bytes)?;
     let told = around(scene, k);
     scene
         .buffers
-        .append(k, &Bytes::from_vec(alloc, bytes)?, &told)
+        .call(k, &BufferCall::Append(Some(&bytes)), &told)
 }
 
 /// Does all work of a buffer, and tells in how many steps.
@@ -243,6 +245,7 @@ fn ranges_of_the_element(rt: HostRuntime) -> Result<(), Fail> {
 enum BuffersCall {
     Mode(Mode),
     Offset(u8),
+    NoOffset,
     WindowStart(u8),
     WindowEnd(u8),
     WindowWithoutEnd,
@@ -250,20 +253,43 @@ enum BuffersCall {
     RemoveFrames(u8),
     /// Appends a frame.
     Append,
+    /// Appends bytes that there are not.
+    AppendNothing,
     Abort,
     Type(&'static str),
     /// Removes the buffer.
     Remove,
 }
 
-fn append_frame(
-    buffers: &mut SourceBuffers<ListStore>,
-    alloc: Global,
-    k: u32,
-    told: &Around,
-) -> Result<Reply, OutOfMemory> {
-    let frame = Bytes::copy_of(alloc, &FRAME)?;
-    buffers.append(k, &frame, told)
+/// How many frames behind 0 the time of a call is.
+fn frames_before(act: BuffersCall) -> u8 {
+    match act {
+        BuffersCall::Offset(frames)
+        | BuffersCall::WindowStart(frames)
+        | BuffersCall::WindowEnd(frames)
+        | BuffersCall::RemoveFrames(frames) => frames,
+        _ => 0,
+    }
+}
+
+/// The call with its time and the frame that is appended; `None` of the removal of the buffer, which
+/// is no call on it.
+fn buffer_call(act: BuffersCall, time: Ticks, frame: &Bytes) -> Option<BufferCall<'_>> {
+    let at = Moment::At(time);
+    match act {
+        BuffersCall::Mode(mode) => Some(BufferCall::SetMode(mode)),
+        BuffersCall::Offset(_) => Some(BufferCall::SetOffset(at)),
+        BuffersCall::NoOffset => Some(BufferCall::SetOffset(Moment::Nan)),
+        BuffersCall::WindowStart(_) => Some(BufferCall::SetWindowStart(at)),
+        BuffersCall::WindowEnd(_) => Some(BufferCall::SetWindowEnd(at)),
+        BuffersCall::WindowWithoutEnd => Some(BufferCall::SetWindowEnd(Moment::Infinite)),
+        BuffersCall::RemoveFrames(_) => Some(BufferCall::Remove(at, Moment::Infinite)),
+        BuffersCall::Append => Some(BufferCall::Append(Some(frame))),
+        BuffersCall::AppendNothing => Some(BufferCall::Append(None)),
+        BuffersCall::Abort => Some(BufferCall::Abort),
+        BuffersCall::Type(text) => Some(BufferCall::ChangeType(read_type(text))),
+        BuffersCall::Remove => None,
+    }
 }
 
 /// Makes the call, and tells what comes of it.
@@ -272,47 +298,42 @@ fn call(
     alloc: Global,
     k: u32,
     act: BuffersCall,
-    told: &Around,
+    told: &BufferContext,
 ) -> Result<Reply, Fail> {
-    match act {
-        BuffersCall::Mode(mode) => Ok(buffers.set_mode(k, mode, told)),
-        BuffersCall::Offset(t) => Ok(buffers.set_offset(k, after(t)?, told)),
-        BuffersCall::WindowStart(t) => Ok(buffers.set_window_start(k, after(t)?, told)),
-        BuffersCall::WindowEnd(t) => Ok(buffers.set_window_end(k, Moment::At(after(t)?), told)),
-        BuffersCall::WindowWithoutEnd => Ok(buffers.set_window_end(k, Moment::Infinite, told)),
-        BuffersCall::RemoveFrames(t) => Ok(buffers.remove_frames(
-            k,
-            after(t)?,
-            Moment::Infinite,
-            told,
-        )),
-        BuffersCall::Append => Ok(append_frame(buffers, alloc, k, told)?),
-        BuffersCall::Abort => Ok(buffers.abort(k, told)?),
-        BuffersCall::Type(text) => Ok(buffers.change_type(k, text, told)?),
-        BuffersCall::Remove => Ok(buffers.remove(k, told)),
+    let frame = Bytes::copy_of(alloc, &FRAME)?;
+    let time = after(frames_before(act))?;
+    match buffer_call(act, time, &frame) {
+        Some(call) => Ok(buffers.call(k, &call, told)?),
+        None => Ok(buffers.remove(k, told)),
     }
 }
 
 /// The name by which it would be refused.
 fn refusal(
     buffers: &SourceBuffers<ListStore>,
+    alloc: Global,
     k: u32,
     act: BuffersCall,
-    told: &Around,
+    told: &BufferContext,
 ) -> Result<Option<Name>, Fail> {
-    match act {
-        BuffersCall::Mode(mode) => Ok(buffers.mode_refusal(k, mode, told)),
-        BuffersCall::Offset(_) => Ok(buffers.offset_refusal(k, told)),
-        BuffersCall::WindowStart(t) => Ok(buffers.window_start_refusal(k, after(t)?)),
-        BuffersCall::WindowEnd(t) => Ok(buffers.window_end_refusal(k, Moment::At(after(t)?))),
-        BuffersCall::WindowWithoutEnd => Ok(buffers.window_end_refusal(k, Moment::Infinite)),
-        BuffersCall::RemoveFrames(t) => {
-            Ok(buffers.remove_frames_refusal(k, after(t)?, Moment::Infinite, told))
-        }
-        BuffersCall::Append => Ok(buffers.append_refusal(k, told)),
-        BuffersCall::Abort => Ok(buffers.abort_refusal(k, told)),
-        BuffersCall::Type(text) => Ok(buffers.change_type_refusal(k, text)),
-        BuffersCall::Remove => Ok(buffers.removal_refusal(k)),
+    let frame = Bytes::copy_of(alloc, &FRAME)?;
+    let time = after(frames_before(act))?;
+    match buffer_call(act, time, &frame) {
+        Some(call) => Ok(buffers.refusal_of(k, &call, told)),
+        None => Ok(buffers.removal_refusal(k)),
+    }
+}
+
+/// How often an abort of the buffer of a number changes the duration at most.
+fn changes_of_an_abort(
+    buffers: &SourceBuffers<ListStore>,
+    alloc: Global,
+    k: u32,
+) -> Result<usize, Fail> {
+    let frame = Bytes::copy_of(alloc, &FRAME)?;
+    match buffer_call(BuffersCall::Abort, Ticks::zero(), &frame) {
+        Some(call) => Ok(buffers.most_changes(k, &call)),
+        None => Err(Fail::new("an abort is a call")),
     }
 }
 
@@ -324,7 +345,7 @@ fn run(
     rt: &impl Abort,
     buffers: &mut SourceBuffers<ListStore>,
     alloc: Global,
-    told: &Around,
+    told: &BufferContext,
     rows: &[Row],
 ) -> Result<(), Fail> {
     for (k, act, wanted) in rows {
@@ -334,7 +355,7 @@ fn run(
     Ok(())
 }
 
-const CALLS_BEHIND_A_REMOVAL: [Row; 12] = [
+const CALLS_BEHIND_A_REMOVAL: [Row; 15] = [
     (1, BuffersCall::Remove, Some(Name::NotFound)),
     (2, BuffersCall::Remove, Some(Name::NoSuchBuffer)),
     (
@@ -346,7 +367,10 @@ const CALLS_BEHIND_A_REMOVAL: [Row; 12] = [
     (1, BuffersCall::WindowStart(0), Some(Name::InvalidState)),
     (1, BuffersCall::WindowWithoutEnd, Some(Name::InvalidState)),
     (1, BuffersCall::RemoveFrames(0), Some(Name::InvalidState)),
+    (1, BuffersCall::NoOffset, Some(Name::TypeError)),
     (1, BuffersCall::Append, Some(Name::InvalidState)),
+    (1, BuffersCall::AppendNothing, Some(Name::NoSuchBytes)),
+    (2, BuffersCall::AppendNothing, Some(Name::NoSuchBuffer)),
     (1, BuffersCall::Abort, Some(Name::InvalidState)),
     (1, BuffersCall::Type("audio/aac"), Some(Name::InvalidState)),
     (1, BuffersCall::Type(""), Some(Name::TypeError)),
@@ -390,18 +414,23 @@ fn a_removed_buffer(rt: HostRuntime) -> Result<(), Fail> {
         (buffers.is_made(1), buffers.is_made(2), buffers.len()),
         (true, false, 2)
     );
-    assert_eq!(rt; (buffers.running(), buffers.ready_frames(1)), (None, 0));
+    assert_eq!(rt;
+        (buffers.running(), changes_of_an_abort(buffers, alloc, 1)?),
+        (None, 0)
+    );
     assert_eq!(rt; buffers.all_buffers().highest_end, Some(after(3)?));
     assert_eq!(rt; buffers.views(false)?.len(), 1);
     expect_one_track(&rt, buffers)
 }
 
-const CALLS_ON_A_BUFFER: [Row; 7] = [
+const CALLS_ON_A_BUFFER: [Row; 9] = [
     (0, BuffersCall::Mode(Mode::Segments), Some(Name::TypeError)),
     (0, BuffersCall::WindowEnd(9), None),
     (0, BuffersCall::WindowStart(9), Some(Name::TypeError)),
     (0, BuffersCall::Abort, None),
     (0, BuffersCall::Offset(1), None),
+    (0, BuffersCall::NoOffset, Some(Name::TypeError)),
+    (0, BuffersCall::AppendNothing, Some(Name::NoSuchBytes)),
     (0, BuffersCall::Type("audio/aac"), None),
     (0, BuffersCall::RemoveFrames(1), None),
 ];
@@ -429,7 +458,10 @@ const ALLOWED: [BuffersCall; 8] = [
 ];
 
 /// Other calls where the buffer of number 1 was removed.
-const OTHERS: [Row; 4] = [
+const OTHERS: [Row; 7] = [
+    (0, BuffersCall::NoOffset, Some(Name::TypeError)),
+    (0, BuffersCall::AppendNothing, Some(Name::NoSuchBytes)),
+    (1, BuffersCall::AppendNothing, Some(Name::NoSuchBytes)),
     (1, BuffersCall::Type(""), Some(Name::TypeError)),
     (0, BuffersCall::Remove, None),
     (1, BuffersCall::Remove, Some(Name::NotFound)),
@@ -438,7 +470,8 @@ const OTHERS: [Row; 4] = [
 
 #[test]
 fn refusals_before_a_call(rt: HostRuntime) -> Result<(), Fail> {
-    let mut scene = two_buffers(rt.alloc())?;
+    let alloc = rt.alloc();
+    let mut scene = two_buffers(alloc)?;
     let told = around(&scene, 1);
     scene.buffers.remove(1, &told);
     // there, removed, never made
@@ -448,11 +481,11 @@ fn refusals_before_a_call(rt: HostRuntime) -> Result<(), Fail> {
         (2, Some(Name::NoSuchBuffer)),
     ] {
         for act in ALLOWED {
-            assert_eq!(rt; refusal(&scene.buffers, k, act, &told)?, wanted);
+            assert_eq!(rt; refusal(&scene.buffers, alloc, k, act, &told)?, wanted);
         }
     }
     for (k, act, wanted) in OTHERS {
-        assert_eq!(rt; refusal(&scene.buffers, k, act, &told)?, wanted);
+        assert_eq!(rt; refusal(&scene.buffers, alloc, k, act, &told)?, wanted);
     }
     Ok(())
 }

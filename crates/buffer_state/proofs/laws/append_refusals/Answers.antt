@@ -1,4 +1,4 @@
-use Rattle.buffer_state.proofs.Refusing.{append_refused, append_evicts}
+use Rattle.buffer_state.proofs.Refusals.{append_refused, append_evicts}
 use Rattle.buffer_state.proofs.laws.append_refusals.Goals as goal
 
 pub returns-clause-refused : goal.returns-clause-refused

@@ -1,4 +1,4 @@
-use Rattle.buffer_state.proofs.Leaving.{left}
+use Rattle.buffer_state.proofs.StepsLeft.{left}
 use Rattle.buffer_state.proofs.laws.left_law.Goals as goal
 
 pub returns : goal.returns

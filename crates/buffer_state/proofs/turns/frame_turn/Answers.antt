@@ -6,8 +6,8 @@ use Rattle.buffer_state.specs.State.{Feed, Content, kept_buffer, next_item, surr
 use Rattle.buffer_state.specs.Replies.{IsBufferAnswer}
 use Rattle.buffer_state.specs.Turns.{append_turn_result}
 use Rattle.buffer_state.specs.StepsLeft.{steps_left}
-use Rattle.buffer_state.proofs.Stepping.{frame-breaks}
-use Rattle.buffer_state.proofs.Leaving.{fewer-given}
+use Rattle.buffer_state.proofs.AppendSteps.{frame-breaks}
+use Rattle.buffer_state.proofs.StepsLeft.{fewer-given}
 use Rattle.buffer_state.proofs.turns.frame_turn.Goals as goal
 
 pub returns-in-Done-clause-fewer : goal.returns-in-Done-clause-fewer

@@ -1,16 +1,19 @@
 use Rattle.std.proofs.Common.{◌<◌, sym, subst}
 use Rattle.parser_loop.specs.Items.{latest_after_any, answer_item}
 use Rattle.byte_stream.specs.Streams.{latest_of}
-use Rattle.track_buffers.specs.Media.{Media}
+use Rattle.mse_base.specs.declared.ticks.Moment.{Moment}
+use Rattle.mse_base.specs.Moments.{IsNotAfter}
+use Rattle.track_buffers.specs.Media.{Media, AreEndedWithin}
+use Rattle.track_buffers.proofs.Durations.{within_later}
 use Rattle.buffer_state.specs.declared.running.Running.{Running}
 use Rattle.buffer_state.specs.declared.running.Running.TheVariants.{Append}
 use Rattle.buffer_state.specs.State.{Feed, Content, kept_buffer, next_item, surroundings}
 use Rattle.buffer_state.specs.Replies.{IsBufferAnswer}
 use Rattle.buffer_state.specs.Turns.{append_turn_result}
-use Rattle.buffer_state.specs.Steps.{IsLeftByStep}
+use Rattle.buffer_state.specs.Steps.{IsLeftByStep, duration_after}
 use Rattle.buffer_state.specs.StepsLeft.{steps_left}
-use Rattle.buffer_state.proofs.Stepping.{append-turns, refusal-turns}
-use Rattle.buffer_state.proofs.Leaving.{fewer}
+use Rattle.buffer_state.proofs.AppendSteps.{append-turns, refusal-turns}
+use Rattle.buffer_state.proofs.StepsLeft.{fewer}
 use Rattle.buffer_state.proofs.turns.item_turn.Goals as goal
 
 -- the segment that comes next is refused; the media is as before it was judged
@@ -19,6 +22,15 @@ returns-in-Some-clause-answered g c =
     let a = surroundings c.args.around.now in
     let turned = refusal-turns c.args.stream.now c.answer.new.stream c.prepare.new.media.media c.answer.new.media.media c.args.running.now c.answer.new.running c.in-Some.step c.answer.result a (λ r s. rw c.in-Some.is at (c.in_ok-step.ensures.prepared r s)) c.answer.ensures.answered in
     subst (λ (m : Media). IsBufferAnswer (kept_buffer c.args.stream.now m c.args.running.now) c.answer.result (kept_buffer c.answer.new.stream c.answer.new.media.media c.answer.new.running) (λ (f : Feed) (d : Content). append_turn_result (next_item f) a f d)) c.in_ok-step.ensures.media turned
+
+-- what ended within the duration ends within the one that the refused segment tells
+pub returns-in-Some-clause-within_duration : goal.returns-in-Some-clause-within_duration
+returns-in-Some-clause-within_duration g c = λ h.
+    let d : Moment = c.args.around.now.duration in
+    let e : Moment = duration_after c.in-Some.step d in
+    let later : IsNotAfter d e = rw c.in-Some.is at c.in_ok-step.ensures.no_fall in
+    let was : AreEndedWithin d c.prepare.new.media.media.tracks = subst (λ (m : Media). AreEndedWithin d m.tracks) (sym c.in_ok-step.ensures.media) h in
+    subst (λ (x : Moment). AreEndedWithin x c.answer.new.media.media.tracks) (sym c.answer.ensures.duration) (c.answer.ensures.within_duration e (within_later d e c.prepare.new.media.media.tracks later was))
 
 -- the media is as before the reservation, and the parts of the step are put together
 pub returns-in_ok-next-in-None-clause-answered : goal.returns-in_ok-next-in-None-clause-answered

@@ -1,7 +1,7 @@
 use Rattle.std.proofs.Common.{◌≤◌, length, refl, arith}
 use Rattle.byte_stream.specs.Readings.{items_in, ready_at}
 use Rattle.parser_loop.specs.Items.{answer_item}
-use Rattle.byte_stream.proofs.Standing.{ready-is}
+use Rattle.byte_stream.proofs.KeptStreams.{ready-is}
 use Rattle.buffer_state.specs.Steps.{IsNoInit}
 use Rattle.buffer_state.proofs.ItemsNext.{place-other, no-init, at-front}
 use Rattle.buffer_state.proofs.turns.prepare.Goals as goal

@@ -1,5 +1,5 @@
 use Rattle.std.proofs.Common.{sym}
-use Rattle.buffer_state.proofs.Stepping.{refused-step}
+use Rattle.buffer_state.proofs.AppendSteps.{refused-step}
 use Rattle.buffer_state.proofs.turns.prepare_init.Goals as goal
 
 pub returns-then-is_some-clause-prepared : goal.returns-then-is_some-clause-prepared

@@ -1,5 +1,5 @@
 use Rattle.std.specs.Prelude.{Some}
-use Rattle.buffer_state.proofs.Stepping.{accepted-step, frame-step}
+use Rattle.buffer_state.proofs.AppendSteps.{accepted-step, frame-step}
 use Rattle.buffer_state.proofs.turns.take_item.Goals as goal
 
 pub returns-in-Init-clause-step : goal.returns-in-Init-clause-step

@@ -1,6 +1,6 @@
 //! Calls and turns as data, and what is heard of them.
 
-use buffer_state::{Around, Buffer, Container, Reply, Turned};
+use buffer_state::{Buffer, BufferContext, Container, Reply, Turned};
 use mse_base::{Bytes, Moment, OutOfMemory, Phase, Ticks};
 use mse_calls::{EventKind, FaultView, Mode, Name, Ready};
 use std::alloc::Global;
@@ -62,7 +62,7 @@ pub(super) fn quiet() -> ReplyView {
 pub(super) struct OneBufferScene {
     alloc: Global,
     buffer: Buffer<ListStore>,
-    around: Around,
+    around: BufferContext,
 }
 
 /// A new buffer of a container, at an opened source with this quota.
@@ -70,7 +70,7 @@ pub(super) fn new_scene(alloc: Global, container: Container, quota: u64) -> OneB
     OneBufferScene {
         alloc,
         buffer: Buffer::new(alloc, Ticks::zero(), container),
-        around: Around {
+        around: BufferContext {
             number: 0,
             ready: Ready::Opened,
             error: false,

@@ -1,7 +1,7 @@
 use Rattle.std.proofs.Common.{◌≡◌, ◌∙◌, sym, ap, slice_get}
 use Rattle.std.specs.Prelude.{Some, None}
 use Rattle.std.specs.Option.{option_copied}
-use Rattle.source_buffers.proofs.Looking.{media_at, no_media_at}
+use Rattle.source_buffers.proofs.SlotLookUps.{media_at, no_media_at}
 use Rattle.source_buffers.proofs.all.end_at.Goals as goal
 
 pub returns-in-Some : goal.returns-in-Some

@@ -1,7 +1,7 @@
 use Rattle.std.proofs.Common.{◌≡◌, ◌∙◌, sym, ap, slice_get}
 use Rattle.std.specs.Prelude.{Some, None}
 use Rattle.std.specs.Option.{option_copied}
-use Rattle.source_buffers.proofs.Staying.{updating_there, updating_none}
+use Rattle.source_buffers.proofs.SlotDurations.{updating_there, updating_none}
 use Rattle.source_buffers.proofs.all.is_updating_at.Goals as goal
 
 pub returns-in-Some : goal.returns-in-Some

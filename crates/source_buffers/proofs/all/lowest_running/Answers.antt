@@ -3,7 +3,7 @@ use Rattle.std.proofs.lemmas.List.{length-map}
 use Rattle.track_buffers.proofs.Loops.{position_more, position_here, position_none}
 use Rattle.source_buffers.specs.State.{all_kept_running}
 use Rattle.source_buffers.specs.All.{is_updating_slot}
-use Rattle.source_buffers.proofs.Looking.{running_at}
+use Rattle.source_buffers.proofs.SlotLookUps.{running_at}
 use Rattle.source_buffers.proofs.all.lowest_running.Goals as goal
 
 pub returns-then-is_updating_at : goal.returns-then-is_updating_at

@@ -3,7 +3,7 @@ use Rattle.std.specs.Prelude.{Option, Some, None}
 use Rattle.std.specs.Option.{option_copied}
 use Rattle.track_buffers.specs.Media.{Media}
 use Rattle.source_buffers.specs.Buffered.{slot_track}
-use Rattle.source_buffers.proofs.Looking.{media_there, media_none}
+use Rattle.source_buffers.proofs.SlotLookUps.{media_there, media_none}
 use Rattle.source_buffers.proofs.all.track_at.Goals as goal
 
 pub returns-in-Some : goal.returns-in-Some

@@ -1,6 +1,6 @@
 use Rattle.std.proofs.Common.{◌∙◌, ℤ, Option, Bool, true, map, ap, sym}
 use Rattle.track_buffers.specs.Buffered.{with_end, with_common_end}
-use Rattle.track_buffers.proofs.Ranging.{grown_none}
+use Rattle.track_buffers.proofs.SharedRanges.{grown_none}
 use Rattle.source_buffers.specs.State.{all_kept_media}
 use Rattle.source_buffers.specs.Buffered.{active_ranges}
 use Rattle.source_buffers.proofs.element.common_end.Goals as goal

@@ -2,10 +2,10 @@ use Rattle.std.proofs.Common.{◌≡◌, ◌∙◌, ◌≤◌, ◌<◌, ℕ, map
 use Rattle.std.proofs.lemmas.List.{length-map, length-take, take_all}
 use Rattle.mse_base.specs.Meets.{meet_of_all}
 use Rattle.track_buffers.specs.Buffered.{with_end}
-use Rattle.track_buffers.proofs.Ranging.{first_track, met_more, grown_all}
+use Rattle.track_buffers.proofs.SharedRanges.{first_track, met_more, grown_all}
 use Rattle.source_buffers.specs.State.{all_kept_media, in_slot}
 use Rattle.source_buffers.specs.Buffered.{active_ranges, slot_ranges}
-use Rattle.source_buffers.proofs.Looking.{active_normalized, none_active}
+use Rattle.source_buffers.proofs.SlotLookUps.{active_normalized, none_active}
 use Rattle.source_buffers.proofs.element.element_ranges.Goals as goal
 
 pub returns-then-active-eq0 : goal.returns-then-active-eq0
@@ -31,7 +31,7 @@ loop-i-preserved g c =
     let long : length rs ≡ length c.args.active.now = length-map qs (with_end c.common_end-end.result) ∙ length-map c.args.active.now (λ (k : ℕ). slot_ranges c.args.ended (in_slot k ms)) in
     let here : c.loop-i.i < length rs = omega (arith, c.loop-i-test.true) in
     let front : 1 ≤ length (take c.loop-i.i rs) = rw length-take (omega (arith, c.loop-i.invariant.some)) in
-    let all = grown_all c.common_end-end.result qs (active_normalized c.args.ended c.args.active.now ms c.sound.ensures) in
+    let all = grown_all c.common_end-end.result qs (active_normalized c.args.ended c.args.active.now ms c.sound.ensures.sound) in
     record {
       met = met_more rs c.loop-i.i c.loop-i.common.spans c.in_ok-ranges.ranges.spans c.in_ok-common-2.common.spans here front all c.loop-i.invariant.met c.in_ok-ranges.ensures c.in_ok-common-2.ensures.met;
       some = omega arith;

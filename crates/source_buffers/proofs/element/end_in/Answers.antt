@@ -4,7 +4,7 @@ use Rattle.std.specs.Option.{option_copied}
 use Rattle.track_buffers.specs.Media.{Media}
 use Rattle.track_buffers.specs.Buffered.{last_end}
 use Rattle.source_buffers.specs.Buffered.{slot_ranges}
-use Rattle.source_buffers.proofs.Looking.{media_there, media_none}
+use Rattle.source_buffers.proofs.SlotLookUps.{media_there, media_none}
 use Rattle.source_buffers.proofs.element.end_in.Goals as goal
 
 pub returns-in-Some : goal.returns-in-Some

@@ -1,7 +1,7 @@
 use Rattle.std.proofs.Common.{◌∙◌, ◌<ℤ◌, ◌≤ℤ◌, sym, arith, true}
 use Rattle.std.proofs.lemmas.Int.{ints}
 use Rattle.track_buffers.specs.Buffered.{buffered_of}
-use Rattle.track_buffers.proofs.Ranging.{buffered_is}
+use Rattle.track_buffers.proofs.SharedRanges.{buffered_is}
 use Rattle.track_buffers.proofs.Lookups.{found_before, last_holds, last_misses, none_holds}
 use Rattle.source_buffers.proofs.element.ended_span_holding.Goals as goal
 

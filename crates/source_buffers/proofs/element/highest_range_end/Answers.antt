@@ -5,7 +5,7 @@ use Rattle.mse_base.specs.declared.span.Span.{Span}
 use Rattle.mse_base.specs.Moments.{greatest}
 use Rattle.track_buffers.specs.Buffered.{last_end, last_ends}
 use Rattle.track_buffers.proofs.Loops.{highest_more}
-use Rattle.track_buffers.proofs.Ranging.{end_here}
+use Rattle.track_buffers.proofs.SharedRanges.{end_here}
 use Rattle.source_buffers.specs.State.{all_kept_media}
 use Rattle.source_buffers.specs.Buffered.{active_ranges}
 use Rattle.source_buffers.proofs.element.highest_range_end.Goals as goal

@@ -5,7 +5,7 @@ use Rattle.std.specs.Option.{option_copied}
 use Rattle.mse_base.specs.Spans.{reaches}
 use Rattle.track_buffers.specs.Media.{Media}
 use Rattle.source_buffers.specs.Buffered.{slot_ranges}
-use Rattle.source_buffers.proofs.Looking.{media_there, media_none}
+use Rattle.source_buffers.proofs.SlotLookUps.{media_there, media_none}
 use Rattle.source_buffers.proofs.element.own_span_in.Goals as goal
 
 pub returns-in-Some : goal.returns-in-Some

@@ -5,11 +5,11 @@ use Rattle.mse_base.specs.declared.span.Span.{Span}
 use Rattle.mse_base.specs.Spans.{reaches}
 use Rattle.mse_base.specs.Meets.{meet_of_all}
 use Rattle.track_buffers.specs.Buffered.{with_end}
-use Rattle.track_buffers.proofs.Ranging.{grown_all}
+use Rattle.track_buffers.proofs.SharedRanges.{grown_all}
 use Rattle.track_buffers.proofs.Lookups.{held_first, held_more}
 use Rattle.source_buffers.specs.State.{all_kept_media, in_slot}
 use Rattle.source_buffers.specs.Buffered.{active_ranges, slot_ranges}
-use Rattle.source_buffers.proofs.Looking.{active_normalized, none_active}
+use Rattle.source_buffers.proofs.SlotLookUps.{active_normalized, none_active}
 use Rattle.source_buffers.proofs.element.shared_span.Goals as goal
 
 pub returns-then-active-eq0 : goal.returns-then-active-eq0
@@ -35,7 +35,7 @@ loop-i-preserved g c =
     let long : length rs ≡ length c.args.active.now = length-map qs (with_end c.common_end-end.result) ∙ length-map c.args.active.now (λ (k : ℕ). slot_ranges c.args.ended (in_slot k ms)) in
     let here : c.loop-i.i < length rs = omega (arith, c.loop-i-test.true) in
     let front : 1 ≤ length (take c.loop-i.i rs) = rw length-take (omega (arith, c.loop-i.invariant.some)) in
-    let all = grown_all c.common_end-end.result qs (active_normalized c.args.ended c.args.active.now ms c.sound.ensures) in
+    let all = grown_all c.common_end-end.result qs (active_normalized c.args.ended c.args.active.now ms c.sound.ensures.sound) in
     record {
       held = held_more c.args.t rs c.loop-i.i c.loop-i.span c.span_at.result c.overlap_of_two-span.result here front all c.loop-i.invariant.held c.span_at.ensures c.overlap_of_two-span.ensures;
       some = omega arith;

@@ -6,7 +6,7 @@ use Rattle.mse_base.specs.Spans.{reaches}
 use Rattle.track_buffers.specs.Media.{Media}
 use Rattle.track_buffers.specs.Buffered.{with_end}
 use Rattle.source_buffers.specs.Buffered.{slot_ranges}
-use Rattle.source_buffers.proofs.Looking.{media_there, media_none, none_reached}
+use Rattle.source_buffers.proofs.SlotLookUps.{media_there, media_none, none_reached}
 use Rattle.source_buffers.proofs.element.span_in.Goals as goal
 
 pub returns-in-Some : goal.returns-in-Some

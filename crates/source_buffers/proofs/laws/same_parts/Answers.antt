@@ -1,4 +1,4 @@
-use Rattle.source_buffers.proofs.Standing.{same_length, same_media, same_running}
+use Rattle.source_buffers.proofs.KeptParts.{same_length, same_media, same_running}
 use Rattle.source_buffers.proofs.laws.same_parts.Goals as goal
 
 pub returns-clause-count : goal.returns-clause-count

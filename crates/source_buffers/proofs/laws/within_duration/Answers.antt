@@ -1,5 +1,5 @@
-use Rattle.source_buffers.proofs.Staying.{all_later}
-use Rattle.source_buffers.proofs.Highest.{all_bounded, none_stored}
+use Rattle.source_buffers.proofs.SlotDurations.{all_later}
+use Rattle.source_buffers.proofs.Highest.{all_bounded, none_stored, no_end}
 use Rattle.source_buffers.proofs.laws.within_duration.Goals as goal
 
 pub returns-clause-later : goal.returns-clause-later
@@ -9,4 +9,4 @@ pub returns-clause-bound : goal.returns-clause-bound
 returns-clause-bound c = all_bounded
 
 pub returns-clause-none : goal.returns-clause-none
-returns-clause-none c = none_stored
+returns-clause-none c ms = (none_stored ms, no_end ms)

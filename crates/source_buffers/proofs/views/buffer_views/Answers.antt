@@ -1,5 +1,5 @@
 use Rattle.std.proofs.Common.{◌<◌, ◌≤◌, length, arith}
-use Rattle.source_buffers.proofs.Viewing.{loop_more, loop_end}
+use Rattle.source_buffers.proofs.BufferViews.{loop_more, loop_end}
 use Rattle.source_buffers.proofs.views.buffer_views.Goals as goal
 
 pub loop-k-preserved : goal.loop-k-preserved

@@ -1,7 +1,7 @@
 use Rattle.std.proofs.Common.{◌≡◌, ◌∙◌, sym, ap, slice_get}
 use Rattle.std.specs.Prelude.{Some, None}
 use Rattle.std.specs.Option.{option_copied}
-use Rattle.source_buffers.proofs.Viewing.{view_there_if_ok, view_none}
+use Rattle.source_buffers.proofs.BufferViews.{view_there_if_ok, view_none}
 use Rattle.source_buffers.proofs.views.push_at.Goals as goal
 
 pub returns-in-Some : goal.returns-in-Some

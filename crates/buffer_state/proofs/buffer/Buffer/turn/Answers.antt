@@ -1,5 +1,5 @@
 use Rattle.buffer_state.specs.State.{kept_buffer, surroundings}
-use Rattle.buffer_state.proofs.Receiving.{leaves_ranges}
+use Rattle.buffer_state.proofs.InitRanges.{leaves_ranges}
 use Rattle.buffer_state.proofs.buffer.Buffer.turn.Goals as goal
 
 pub returns-in_ok-reply-in-Append-clause-ranges : goal.returns-in_ok-reply-in-Append-clause-ranges

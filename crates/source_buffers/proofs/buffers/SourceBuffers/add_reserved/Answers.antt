@@ -1,7 +1,7 @@
 use Rattle.std.proofs.Common.{◌++◌, ◌∷◌, [], sym, subst}
 use Rattle.std.specs.Prelude.{Some}
 use Rattle.source_buffers.specs.State.{KeptBuffers, AreSlotsStanding, new_buffer}
-use Rattle.source_buffers.proofs.Standing.{one_more}
+use Rattle.source_buffers.proofs.KeptParts.{one_more}
 use Rattle.source_buffers.proofs.buffers.SourceBuffers.add_reserved.Goals as goal
 
 pub returns-clause-stand : goal.returns-clause-stand
