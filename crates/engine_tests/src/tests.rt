@@ -9,6 +9,7 @@ mod buffers;
 mod element;
 mod files;
 mod frames;
+mod library_page;
 mod memory;
 mod refusals;
 

@@ -10,11 +10,11 @@ use Rattle.source_state.specs.Seekable.{seekable_span}
 use Rattle.source_state.specs.State.{SourceState}
 use Rattle.source_buffers.specs.State.{KeptBuffers}
 use Rattle.source_buffers.specs.Buffered.{element_ranges}
-use Rattle.media_element.specs.State.{ElementState}
 use Rattle.mse_engine.specs.declared.scenes.Bounds.{Bounds}
 use Rattle.mse_engine.specs.declared.scenes.LoadBounds.{LoadBounds}
 use Rattle.mse_engine.specs.Scenes.{buffered_in, seekable_in, seekable_of}
-use Rattle.mse_engine.specs.Standing.{SourceSide, HasBounds, bounds_at, view_of}
+use Rattle.mse_engine.specs.State.{MediaSource}
+use Rattle.mse_engine.specs.Standing.{HasBounds, bounds_at, view_of}
 
 -- where the duration is not infinite the ranges do not matter
 pub finite_seekable : (d : Moment) (live : Option Span) (first last : Option ℤ) → is_same_moment d Infinite ≡ false → seekable_span d live None None ≡ seekable_span d live first last
@@ -27,9 +27,9 @@ both_bounds b active ms opened closed true = closed
 both_bounds b active ms opened closed false = opened
 
 -- with the bounds in place of the ranges
-pub seekable_there : (seekable : Option Span) (b : Bounds) (spans : List Span) (source : SourceState) (side : SourceSide) (ks : KeptBuffers) (e : ElementState)
-    → source ≡ side.state → seekable ≡ seekable_span source.duration source.live b.first b.last → HasBounds b spans → spans ≡ buffered_in (view_of side ks e)
-    → seekable ≡ seekable_in (view_of side ks e)
-seekable_there seekable b spans source side ks e state is h same =
-    let here : seekable ≡ seekable_of (view_of side ks e) spans = is ∙ (λ i. seekable_span (state i).duration (state i).live (h.first i) (h.last i)) in
-    here ∙ ap (seekable_of (view_of side ks e)) same
+pub seekable_there : (seekable : Option Span) (b : Bounds) (spans : List Span) (s : SourceState) (source : MediaSource) (ks : KeptBuffers)
+    → s ≡ source.state → seekable ≡ seekable_span s.duration s.live b.first b.last → HasBounds b spans → spans ≡ buffered_in (view_of source ks)
+    → seekable ≡ seekable_in (view_of source ks)
+seekable_there seekable b spans s source ks state is h same =
+    let here : seekable ≡ seekable_of (view_of source ks) spans = is ∙ (λ i. seekable_span (state i).duration (state i).live (h.first i) (h.last i)) in
+    here ∙ ap (seekable_of (view_of source ks)) same

@@ -21,10 +21,12 @@ use Rattle.mse_calls.specs.declared.calls.Call.TheVariants as call
 use Rattle.mse_calls.specs.declared.calls.EndKind.{EndKind}
 use Rattle.mse_calls.specs.declared.calls.EndKind.TheVariants.{Plain, Network, Decode}
 use Rattle.mse_calls.specs.declared.events.Event.{Event}
+use Rattle.mse_calls.specs.declared.events.EventKind.TheVariants as kind
+use Rattle.mse_calls.specs.declared.events.Target.TheVariants as target
+use Rattle.mse_calls.specs.declared.views.FaultView.{FaultView}
 use Rattle.buffer_state.specs.declared.reply.Reply.{Reply}
-use Rattle.buffer_state.specs.State.{Feed, Content, Surroundings}
-use Rattle.buffer_state.specs.Replies.{CallResult}
-use Rattle.buffer_state.specs.Calls.{mode_result, offset_result, window_start_result, window_end_result, remove_result, append_result, abort_result, change_type_result}
+use Rattle.buffer_state.specs.AllCalls.{CallView, SetMode, SetOffset, SetWindowStart, SetWindowEnd, Remove, Abort, ChangeType, input_at}
+use Rattle.buffer_state.specs.AllCalls as calls
 use Rattle.source_state.specs.State.{SourceState, is_listed_in, are_in}
 use Rattle.source_state.specs.Calls.{answer_and_state, in_ready, with_live, after_set_live, has_most_buffers, with_new, without_buffer, after_duration_change, past_frames, has_frame_after, end_refusal}
 use Rattle.source_state.specs.declared.answers.Added.{Added}
@@ -34,54 +36,58 @@ use Rattle.source_state.specs.declared.answers.Removed.TheVariants as removed
 use Rattle.source_state.specs.declared.answers.Changed.{Changed}
 use Rattle.source_state.specs.declared.answers.Changed.TheVariants as changed
 use Rattle.source_buffers.specs.State.{BufferState, BufferStates, in_slot, media_of, media_of_all, new_buffer}
-use Rattle.source_buffers.specs.Slots.{BuffersResult, removed_type_name, buffers_turn}
+use Rattle.source_buffers.specs.Slots.{BuffersResult, buffers_turn}
 use Rattle.source_buffers.specs.All.{highest_end_of_all}
 use Rattle.element_seek.specs.Inside.{IsSpanInside}
-use Rattle.mse_engine.specs.State.{CoreSource, Core, Outer, State, player_of, element_in}
-use Rattle.mse_engine.specs.Scenes.{CoreView, core_view}
-use Rattle.mse_engine.specs.Signals.{Signal, Tell, DurationChanged, after_signals, outer_after, step}
-use Rattle.mse_engine.specs.Replies.{surroundings_in, active_after, is_activating, is_loading, load_signals, effect_signals, middle_signals, reply_signals}
+use Rattle.element_seek.specs.State.{PlayerState}
+use Rattle.media_element.specs.Queueing.{event_at}
+use Rattle.media_element.specs.State.{ElementState}
+use Rattle.mse_engine.specs.State.{CoreSource, Core, State, core_of}
+use Rattle.mse_engine.specs.Scenes.{SourceView, core_view}
+use Rattle.mse_engine.specs.Signals.{Signal, Tell, DurationChanged, Loaded, after_signals, step}
+use Rattle.mse_engine.specs.Replies.{surroundings_in, active_after, is_loading, load_signals, fault_signals, work_signals}
 use Rattle.mse_engine.specs.CoreEffects.{CoreEffect, refused_effect, no_core_effect, effect_leaving, if_finite, if_made}
 use Rattle.mse_engine.specs.SourceCalls.{from_source, attach_effect, set_live_effect, clear_live_effect, added_effect, add_effect_by, add_effect_of, remove_effect_by, remove_effect, changed_effect_by, all_in, set_duration_effect, with_end_error, end_effect_by}
-use Rattle.mse_engine.specs.BufferCalls.{reply_effect, buffer_effect, append_effect_of}
+use Rattle.mse_engine.specs.BufferCalls.{buffer_effect}
 use Rattle.mse_engine.specs.Calls.{seek_effect, advance_effect, read_slot_effect, core_effect, after_call}
-use Rattle.mse_engine.specs.Work.{work_result, after_work, is_turn_due, after_element_turn}
+use Rattle.mse_engine.specs.Work.{turn_effect, work_result, after_work, is_turn_due, after_element_turn}
 use Rattle.mse_engine.specs.Positions.{IsPositionInside, HasNoTracks, AreUntracked, IsInsideState}
-use Rattle.mse_engine.proofs.Telling.{ended_event}
 use Rattle.mse_engine.proofs.Progress.{turned}
-use Rattle.mse_engine.proofs.Spanning.{all_append, highest-above}
-use Rattle.mse_engine.proofs.Timing.{IsRaised, raised_same, raised_to}
-use Rattle.mse_engine.proofs.Replying.{AreTimely, AreTimelyBuffers, mode_timely, offset_timely, window_start_timely, window_end_timely, remove_timely, append_timely, abort_timely, change_type_timely, call-timely, removal-timely, turn-timely}
-use Rattle.mse_engine.proofs.Placing.{AreInside, HasFrames, placed_raised, placed_seek, placed_play, placed_advance, placed_pause, placed_turn, placed_settled, IsHearable, AreHearable, placed_signals, IsAbove, placed_fall}
+use Rattle.mse_engine.proofs.BufferedSpans.{all_append, highest-above}
+use Rattle.mse_engine.proofs.RaisedDurations.{IsRaised, raised_same, raised_to}
+use Rattle.mse_engine.proofs.ReplyDurations.{AreTimelyBuffers, call-timely, removal-timely, turn-timely}
+use Rattle.mse_engine.proofs.ElementPositions.{HasFrames, placed_raised, placed_seek, placed_play, placed_advance, placed_pause, placed_turn, placed_settled, IsHearable, AreHearable, placed_signals, IsAbove, placed_fall}
+
+abbrev ended_event : Event
+ended_event = event_at target.Source kind.SourceEnded
 
 -- what a call does to the source and its buffers, and what the element hears of it, leaves the position inside
 record IsPlacing (c : Core) (m : CoreEffect) : Type 0 where
   untracked : AreUntracked m.core.source.state.duration m.core.buffers
-  position_inside : (o : Outer) → IsPositionInside c.source.state o.element → HasFrames (core_view m.core) → IsPositionInside m.core.source.state (outer_after (core_view m.core) m.signals o).element
+  position_inside : (e : ElementState) → IsPositionInside c.source.state e.player → HasFrames (core_view m.core) → IsPositionInside m.core.source.state (step m.core m.signals e).element.player
 
 placing_by : (c : Core) (b : Bool) (x y : CoreEffect) → IsPlacing c x → IsPlacing c y → IsPlacing c (cond b x y)
 placing_by c true x y h k = h
 placing_by c false x y h k = k
 
--- ---- what is told of a reply
+-- ---- what is told of a step of work
 
-load_heard : (v : CoreView) (b : Bool) → (b ≡ true → is_nan v.source.state.duration ≡ false) → AreHearable v (load_signals b)
+load_heard : (v : SourceView) (b : Bool) → (b ≡ true → is_nan v.state.duration ≡ false) → AreHearable v (cond b (Loaded ∷ []) [])
 load_heard v true f = (f refl, tt)
 load_heard v false f = tt
 
-middle_heard : (v : CoreView) (first : Bool) (buffer : List Event) (effects : List Signal) → AreHearable v effects → AreHearable v (cond first (Tell buffer ∷ effects) (effects ++ Tell buffer ∷ []))
-middle_heard v true buffer effects h = (tt, h)
-middle_heard v false buffer effects h = all_append (IsHearable v) effects _ h (tt, tt)
+fault_heard : (v : SourceView) (o : Option FaultView) → AreHearable v (fault_signals o)
+fault_heard v None = tt
+fault_heard v (Some fault) = (tt, (tt, tt))
 
 first_true : (a b c : Bool) → ((a && b) && c) ≡ true → a ≡ true
 first_true true b c e = refl
 first_true false b c e = absurd (cc)
 
-reply_heard : (v : CoreView) (k : ℕ) (r : Reply) (s : CoreSource) → (r.received_init ≡ true → is_nan v.source.state.duration ≡ false) → AreHearable v (reply_signals k r s)
-reply_heard v k r s f =
-    let brings : Bool = is_loading k r s.blank s.state in
-    let there = load_heard v brings (λ e. f (first_true r.received_init s.blank (are_in s.state.listed (active_after k r s.state)) e)) in
-    (tt, all_append (IsHearable v) (middle_signals k r (is_activating k r s.state) brings) _ (middle_heard v r.events_first _ (effect_signals r.duration_changes (is_activating k r s.state) brings) (tt, (tt, there))) (tt, tt))
+work_heard : (v : SourceView) (k : ℕ) (r : Reply) (s : CoreSource) → (r.received_init ≡ true → is_nan v.state.duration ≡ false) → AreHearable v (work_signals k r s)
+work_heard v k r s f =
+    let there = load_heard v (is_loading k r s.blank s.state) (λ e. f (first_true r.received_init s.blank (are_in s.state.listed (active_after k r s.state)) e)) in
+    (tt, (tt, all_append (IsHearable v) (load_signals k r s.blank s.state) _ there (tt, fault_heard v r.fault)))
 
 -- ---- a time that may be after the end of what is sought
 
@@ -116,16 +122,16 @@ end_above (Some e) f = not_before e (f e refl)
     not_before : (e : ℤ) → pos 0 ≤ℤ e → is_after (pos 0) (At e) ≡ false
     not_before e h = grind (arith, ints)
 
-module _ (law : AreInside) (c : Core) (none : AreUntracked c.source.state.duration c.buffers) where
+module _ (c : Core) (none : AreUntracked c.source.state.duration c.buffers) where
   -- where the duration does not fall
   carried : (m : CoreEffect) → AreUntracked m.core.source.state.duration m.core.buffers → IsRaised c.source.state.duration m.core.source.state.duration
       → (IsSpanInside Infinite c.source.state.live → IsSpanInside Infinite m.core.source.state.live) → AreHearable (core_view m.core) m.signals → IsPlacing c m
   carried m untracked raised live heard = record {
     untracked = untracked;
-    position_inside = λ o h f.
-        let v : CoreView = core_view m.core in
-        let here = placed_raised c.source.state m.core.source.state o.element h raised live in
-        placed_settled v (after_signals v m.signals (element_in v.source.error o)) (placed_signals law v m.signals (element_in v.source.error o) f heard here);
+    position_inside = λ e h f.
+        let v : SourceView = core_view m.core in
+        let here = placed_raised c.source.state m.core.source.state e.player h raised live in
+        placed_settled v (after_signals v m.signals e) (placed_signals v m.signals e f heard here);
   }
 
   -- where the source and its buffers stay
@@ -211,8 +217,8 @@ module _ (law : AreInside) (c : Core) (none : AreUntracked c.source.state.durati
   change_by false x y h k = k
 
   -- the element is above the start, whatever the duration becomes
-  above : (s : SourceState) (o : Outer) → IsPositionInside c.source.state o.element → is_nan s.duration ≡ false → is_after (pos 0) s.duration ≡ false → s.live ≡ c.source.state.live → IsAbove s o.element
-  above s o h named lasting live = record {
+  above : (s : SourceState) (p : PlayerState) → IsPositionInside c.source.state p → is_nan s.duration ≡ false → is_after (pos 0) s.duration ≡ false → s.live ≡ c.source.state.live → IsAbove s p
+  above s p h named lasting live = record {
     lasting = lasting;
     live = subst (λ x. IsSpanInside Infinite x) (sym live) h.live;
     named = named;
@@ -223,10 +229,10 @@ module _ (law : AreInside) (c : Core) (none : AreUntracked c.source.state.durati
   changed_to : (d : Moment) → is_nan d ≡ false → is_after (pos 0) d ≡ false → IsPlacing c (changed_effect_by [] (answer_and_state (changed.To d) (record c.source.state { duration = d })) c)
   changed_to d named lasting = record {
     untracked = λ n. absurd (cc);
-    position_inside = λ o h f.
-        let v : CoreView = core_view (changed_effect_by [] (answer_and_state (changed.To d) (record c.source.state { duration = d })) c).core in
-        placed_settled v (after_signals v (DurationChanged d ∷ []) (element_in v.source.error o))
-        (placed_fall law d v (player_of v.source.error o.element) f refl (above (record c.source.state { duration = d }) o h named lasting refl));
+    position_inside = λ e h f.
+        let v : SourceView = core_view (changed_effect_by [] (answer_and_state (changed.To d) (record c.source.state { duration = d })) c).core in
+        placed_settled v (after_signals v (DurationChanged d ∷ []) e)
+        (placed_fall d v e.player f refl (above (record c.source.state { duration = d }) e.player h named lasting refl));
   }
 
   same_duration : IsPlacing c (changed_effect_by [] (answer_and_state changed.Same c.source.state) c)
@@ -263,11 +269,11 @@ module _ (law : AreInside) (c : Core) (none : AreUntracked c.source.state.durati
       → IsPlacing c (with_end_error Plain (changed_effect_by (Tell (ended_event ∷ []) ∷ []) (answer_and_state (changed.To d) (record (in_ready Ended c.source.state) { duration = d })) c))
   ended_at d named lasting = record {
     untracked = λ n. absurd (cc);
-    position_inside = λ o h f.
+    position_inside = λ e h f.
         let m : CoreEffect = with_end_error Plain (changed_effect_by (Tell (ended_event ∷ []) ∷ []) (answer_and_state (changed.To d) (record (in_ready Ended c.source.state) { duration = d })) c) in
-        let v : CoreView = core_view m.core in
-        placed_settled v (after_signals v m.signals (element_in v.source.error o))
-        (placed_fall law d v (player_of v.source.error o.element) f refl (above (record (in_ready Ended c.source.state) { duration = d }) o h named (lasting f) refl));
+        let v : SourceView = core_view m.core in
+        placed_settled v (after_signals v m.signals e)
+        (placed_fall d v e.player f refl (above (record (in_ready Ended c.source.state) { duration = d }) e.player h named (lasting f) refl));
   }
 
   end_by : (b : Bool) (x y : AnswerAndState Changed SourceState) → IsPlacing c (with_end_error Plain (changed_effect_by (Tell (ended_event ∷ []) ∷ []) x c)) → IsPlacing c (with_end_error Plain (changed_effect_by (Tell (ended_event ∷ []) ∷ []) y c))
@@ -289,15 +295,11 @@ module _ (law : AreInside) (c : Core) (none : AreUntracked c.source.state.durati
 
   -- ---- calls on a buffer
 
-  replied : (k : ℕ) (r : BuffersResult) → AreTimelyBuffers c.source.state.duration r → IsPlacing c (reply_effect k r c)
-  replied k r t = carried (reply_effect k r c) t.untracked t.raised (λ x. x) (reply_heard (core_view (reply_effect k r c).core) k r.reply c.source t.received)
+  worked : (k : ℕ) (r : BuffersResult) → AreTimelyBuffers c.source.state.duration r → IsPlacing c (turn_effect k r c)
+  worked k r t = carried (turn_effect k r c) t.untracked t.raised (λ x. x) (work_heard (core_view (turn_effect k r c).core) k r.reply c.source t.received)
 
-  on_buffer : (k : ℕ) (call : Surroundings → Feed → Content → CallResult) → AreTimely (surroundings_in k c.source) call → IsPlacing c (buffer_effect k call c)
-  on_buffer k call t = replied k _ (call-timely k InvalidState (surroundings_in k c.source) call c.buffers t none)
-
-  append_of : (o : Option (List ℕ)) (k : ℕ) (position : ℤ) → IsPlacing c (append_effect_of o k position c)
-  append_of None k position = refused _
-  append_of (Some bytes) k position = on_buffer k (append_result (record { bytes = bytes; position = position; quota = c.source.quota })) (append_timely bytes position c.source.quota (surroundings_in k c.source))
+  on_buffer : (k : ℕ) (call : CallView) → IsPlacing c (buffer_effect k call c)
+  on_buffer k call = let t = call-timely k (surroundings_in k c.source) call c.buffers none in carried (buffer_effect k call c) t.untracked t.raised (λ x. x) (tt, tt)
 
   read_slot : (o : Option BufferState) → IsPlacing c (read_slot_effect o c)
   read_slot None = refused InvalidState
@@ -313,14 +315,14 @@ module _ (law : AreInside) (c : Core) (none : AreUntracked c.source.state.durati
   of_call blobs position (call.EndOfStream end) = end_of (end_refusal (all_in c).updating c.source.state) end
   of_call blobs position (call.SetLiveSeekableRange start end) = set_live start end
   of_call blobs position call.ClearLiveSeekableRange = clear_live
-  of_call blobs position (call.SetMode k mode) = on_buffer k (mode_result mode) (mode_timely mode (surroundings_in k c.source))
-  of_call blobs position (call.SetTimestampOffset k t) = made k _ (finite t _ (λ offset. on_buffer k (offset_result offset) (offset_timely offset (surroundings_in k c.source))))
-  of_call blobs position (call.SetAppendWindowStart k t) = made k _ (finite t _ (λ start. on_buffer k (window_start_result start) (window_start_timely start (surroundings_in k c.source))))
-  of_call blobs position (call.SetAppendWindowEnd k t) = on_buffer k (window_end_result t) (window_end_timely t (surroundings_in k c.source))
-  of_call blobs position (call.AppendBuffer k piece) = made k _ (append_of (bytes_of blobs piece) k position)
-  of_call blobs position (call.Abort k) = on_buffer k abort_result (abort_timely (surroundings_in k c.source))
-  of_call blobs position (call.Remove k start end) = made k _ (finite start _ (λ from. on_buffer k (remove_result from end) (remove_timely from end (surroundings_in k c.source))))
-  of_call blobs position (call.ChangeType k text) = replied k _ (call-timely k (removed_type_name text) (surroundings_in k c.source) (change_type_result text) c.buffers (change_type_timely text (surroundings_in k c.source)) none)
+  of_call blobs position (call.SetMode k mode) = on_buffer k (SetMode mode)
+  of_call blobs position (call.SetTimestampOffset k t) = on_buffer k (SetOffset t)
+  of_call blobs position (call.SetAppendWindowStart k t) = on_buffer k (SetWindowStart t)
+  of_call blobs position (call.SetAppendWindowEnd k t) = on_buffer k (SetWindowEnd t)
+  of_call blobs position (call.AppendBuffer k piece) = on_buffer k (calls.Append (input_at position c.source.quota (bytes_of blobs piece)))
+  of_call blobs position (call.Abort k) = on_buffer k Abort
+  of_call blobs position (call.Remove k start end) = on_buffer k (Remove start end)
+  of_call blobs position (call.ChangeType k text) = on_buffer k (ChangeType (type_of text))
   of_call blobs position (call.Buffered k) = made k _ (read_slot (in_slot k c.buffers))
   of_call blobs position call.SourceState = still
   of_call blobs position (call.Seek t) = still
@@ -332,72 +334,72 @@ module _ (law : AreInside) (c : Core) (none : AreUntracked c.source.state.durati
 
 -- ---- calls on the element
 
-module _ (law : AreInside) (st : State) (h : IsInsideState st) (f : HasFrames (core_view st.core)) where
-  settled : (o : Outer) → IsPositionInside st.core.source.state o.element → IsInsideState (step st.core [] o)
-  settled o k = record { position_inside = placed_settled (core_view st.core) (element_in st.core.source.error o) k; untracked = h.untracked }
+module _ (st : State) (h : IsInsideState st) (f : HasFrames (core_view (core_of st))) where
+  settled : (e : ElementState) → IsPositionInside st.source.state e.player → IsInsideState (step (core_of st) [] e)
+  settled e k = record { position_inside = placed_settled (core_view (core_of st)) e k; untracked = h.untracked }
 
-  seeks : (t : Moment) → IsPositionInside st.core.source.state (seek_effect t (core_view st.core) st.outer).state.element
+  seeks : (t : Moment) → IsPositionInside st.source.state (seek_effect t (core_view (core_of st)) st.element).state.player
   seeks Nan = h.position_inside
-  seeks (At t) = placed_seek law (core_view st.core) (player_of st.core.source.error st.outer.element) f h.position_inside t
+  seeks (At t) = placed_seek (core_view (core_of st)) st.element.player f h.position_inside t
   seeks Infinite = h.position_inside
 
-  advances : (t : Moment) → IsPositionInside st.core.source.state (advance_effect t (core_view st.core) st.outer).state.element
+  advances : (t : Moment) → IsPositionInside st.source.state (advance_effect t (core_view (core_of st)) st.element).state.player
   advances Nan = h.position_inside
-  advances (At t) = placed_advance law (core_view st.core) (player_of st.core.source.error st.outer.element) f h.position_inside t
+  advances (At t) = placed_advance (core_view (core_of st)) st.element.player f h.position_inside t
   advances Infinite = h.position_inside
 
 -- a call that the element does not act by
-behind : AreInside → (blobs : List (List ℕ)) (x : Call) (st : State) → IsInsideState st → HasFrames (core_view (core_effect blobs st.outer.element.position x st.core).core)
-    → IsInsideState (step (core_effect blobs st.outer.element.position x st.core).core (core_effect blobs st.outer.element.position x st.core).signals st.outer)
-behind law blobs x st h f =
-    let all = of_call law st.core h.untracked blobs st.outer.element.position x in
-    record { position_inside = all.position_inside st.outer h.position_inside f; untracked = all.untracked }
+behind : (blobs : List (List ℕ)) (x : Call) (st : State) → IsInsideState st → HasFrames (core_view (core_effect blobs st.element.player.position x (core_of st)).core)
+    → IsInsideState (step (core_effect blobs st.element.player.position x (core_of st)).core (core_effect blobs st.element.player.position x (core_of st)).signals st.element)
+behind blobs x st h f =
+    let all = of_call (core_of st) h.untracked blobs st.element.player.position x in
+    record { position_inside = all.position_inside st.element h.position_inside f; untracked = all.untracked }
 
 -- where the frames are sound and end within the duration behind a call, it leaves the position inside
-pub call-placed : AreInside → (blobs : List (List ℕ)) (x : Call) (st : State) → IsInsideState st → HasFrames (core_view (after_call blobs x st).state.core) → IsInsideState (after_call blobs x st).state
-call-placed law blobs (call.Seek t) st h f = settled law st h f _ (seeks law st h f t)
-call-placed law blobs call.Play st h f = settled law st h f _ (placed_play law (core_view st.core) (player_of st.core.source.error st.outer.element) f h.position_inside)
-call-placed law blobs call.Pause st h f = settled law st h f _ (placed_pause law (core_view st.core) (player_of st.core.source.error st.outer.element) f h.position_inside)
-call-placed law blobs (call.Advance t) st h f = settled law st h f _ (advances law st h f t)
-call-placed law blobs call.Attach st h f = behind law blobs call.Attach st h f
-call-placed law blobs (call.AddSourceBuffer text) st h f = behind law blobs (call.AddSourceBuffer text) st h f
-call-placed law blobs (call.RemoveSourceBuffer k) st h f = behind law blobs (call.RemoveSourceBuffer k) st h f
-call-placed law blobs (call.SetDuration d) st h f = behind law blobs (call.SetDuration d) st h f
-call-placed law blobs (call.EndOfStream end) st h f = behind law blobs (call.EndOfStream end) st h f
-call-placed law blobs (call.SetLiveSeekableRange start end) st h f = behind law blobs (call.SetLiveSeekableRange start end) st h f
-call-placed law blobs call.ClearLiveSeekableRange st h f = behind law blobs call.ClearLiveSeekableRange st h f
-call-placed law blobs (call.SetMode k mode) st h f = behind law blobs (call.SetMode k mode) st h f
-call-placed law blobs (call.SetTimestampOffset k t) st h f = behind law blobs (call.SetTimestampOffset k t) st h f
-call-placed law blobs (call.SetAppendWindowStart k t) st h f = behind law blobs (call.SetAppendWindowStart k t) st h f
-call-placed law blobs (call.SetAppendWindowEnd k t) st h f = behind law blobs (call.SetAppendWindowEnd k t) st h f
-call-placed law blobs (call.AppendBuffer k piece) st h f = behind law blobs (call.AppendBuffer k piece) st h f
-call-placed law blobs (call.Abort k) st h f = behind law blobs (call.Abort k) st h f
-call-placed law blobs (call.Remove k start end) st h f = behind law blobs (call.Remove k start end) st h f
-call-placed law blobs (call.ChangeType k text) st h f = behind law blobs (call.ChangeType k text) st h f
-call-placed law blobs (call.Buffered k) st h f = behind law blobs (call.Buffered k) st h f
-call-placed law blobs call.SourceState st h f = behind law blobs call.SourceState st h f
-call-placed law blobs call.ElementBuffered st h f = behind law blobs call.ElementBuffered st h f
-call-placed law blobs call.Seekable st h f = behind law blobs call.Seekable st h f
+pub call-placed : (blobs : List (List ℕ)) (x : Call) (st : State) → IsInsideState st → HasFrames (core_view (core_of (after_call blobs x st).state)) → IsInsideState (after_call blobs x st).state
+call-placed blobs (call.Seek t) st h f = settled st h f _ (seeks st h f t)
+call-placed blobs call.Play st h f = settled st h f _ (placed_play (core_view (core_of st)) st.element.player f h.position_inside)
+call-placed blobs call.Pause st h f = settled st h f _ (placed_pause (core_view (core_of st)) st.element.player f h.position_inside)
+call-placed blobs (call.Advance t) st h f = settled st h f _ (advances st h f t)
+call-placed blobs call.Attach st h f = behind blobs call.Attach st h f
+call-placed blobs (call.AddSourceBuffer text) st h f = behind blobs (call.AddSourceBuffer text) st h f
+call-placed blobs (call.RemoveSourceBuffer k) st h f = behind blobs (call.RemoveSourceBuffer k) st h f
+call-placed blobs (call.SetDuration d) st h f = behind blobs (call.SetDuration d) st h f
+call-placed blobs (call.EndOfStream end) st h f = behind blobs (call.EndOfStream end) st h f
+call-placed blobs (call.SetLiveSeekableRange start end) st h f = behind blobs (call.SetLiveSeekableRange start end) st h f
+call-placed blobs call.ClearLiveSeekableRange st h f = behind blobs call.ClearLiveSeekableRange st h f
+call-placed blobs (call.SetMode k mode) st h f = behind blobs (call.SetMode k mode) st h f
+call-placed blobs (call.SetTimestampOffset k t) st h f = behind blobs (call.SetTimestampOffset k t) st h f
+call-placed blobs (call.SetAppendWindowStart k t) st h f = behind blobs (call.SetAppendWindowStart k t) st h f
+call-placed blobs (call.SetAppendWindowEnd k t) st h f = behind blobs (call.SetAppendWindowEnd k t) st h f
+call-placed blobs (call.AppendBuffer k piece) st h f = behind blobs (call.AppendBuffer k piece) st h f
+call-placed blobs (call.Abort k) st h f = behind blobs (call.Abort k) st h f
+call-placed blobs (call.Remove k start end) st h f = behind blobs (call.Remove k start end) st h f
+call-placed blobs (call.ChangeType k text) st h f = behind blobs (call.ChangeType k text) st h f
+call-placed blobs (call.Buffered k) st h f = behind blobs (call.Buffered k) st h f
+call-placed blobs call.SourceState st h f = behind blobs call.SourceState st h f
+call-placed blobs call.ElementBuffered st h f = behind blobs call.ElementBuffered st h f
+call-placed blobs call.Seekable st h f = behind blobs call.Seekable st h f
 
-work_by : AreInside → (o : Option BuffersResult) (k : ℕ) (st new : State) → ((r : BuffersResult) → o ≡ Some r → AreTimelyBuffers st.core.source.state.duration r) → IsInsideState st → HasFrames (core_view new.core)
-    → work_result (option_map (λ result. reply_effect k result st.core) o) st ≡ Some new → IsInsideState new
-work_by law None k st new t h f e = absurd (cc)
-work_by law (Some r) k st new t h f e =
-    let m : CoreEffect = reply_effect k r st.core in
-    let same : step m.core m.signals st.outer ≡ new = cc in
-    let all = replied law st.core h.untracked k r (t r refl) in
-    let frames : HasFrames (core_view m.core) = subst (λ (s : State). HasFrames (core_view s.core)) (sym same) f in
-    subst (λ (s : State). IsInsideState s) same (record { position_inside = all.position_inside st.outer h.position_inside frames; untracked = all.untracked })
+work_by : (o : Option BuffersResult) (k : ℕ) (st new : State) → ((r : BuffersResult) → o ≡ Some r → AreTimelyBuffers st.source.state.duration r) → IsInsideState st → HasFrames (core_view (core_of new))
+    → work_result (option_map (λ result. turn_effect k result (core_of st)) o) st ≡ Some new → IsInsideState new
+work_by None k st new t h f e = absurd (cc)
+work_by (Some r) k st new t h f e =
+    let m : CoreEffect = turn_effect k r (core_of st) in
+    let same : step m.core m.signals st.element ≡ new = cc in
+    let all = worked (core_of st) h.untracked k r (t r refl) in
+    let frames : HasFrames (core_view m.core) = subst (λ (s : State). HasFrames (core_view (core_of s))) (sym same) f in
+    subst (λ (s : State). IsInsideState s) same (record { position_inside = all.position_inside st.element h.position_inside frames; untracked = all.untracked })
 
-pub work-placed : AreInside → (k : ℕ) (st new : State) → after_work k st ≡ Some new → IsInsideState st → HasFrames (core_view new.core) → IsInsideState new
-work-placed law k st new e h f =
-    work_by law (buffers_turn k (surroundings_in k st.core.source) st.core.buffers) k st new (λ r is. turn-timely k (surroundings_in k st.core.source) st.core.buffers r h.untracked is) h f e
+pub work-placed : (k : ℕ) (st new : State) → after_work k st ≡ Some new → IsInsideState st → HasFrames (core_view (core_of new)) → IsInsideState new
+work-placed k st new e h f =
+    work_by (buffers_turn k (surroundings_in k (core_of st).source) st.buffers) k st new (λ r is. turn-timely k (surroundings_in k (core_of st).source) st.buffers r h.untracked is) h f e
 
-turn_by : AreInside → (b : Bool) (st new : State) → cond b (Some (turned st)) None ≡ Some new → IsInsideState st → HasFrames (core_view st.core) → IsInsideState new
-turn_by law true st new e h f =
+turn_by : (b : Bool) (st new : State) → cond b (Some (turned st)) None ≡ Some new → IsInsideState st → HasFrames (core_view (core_of st)) → IsInsideState new
+turn_by true st new e h f =
     let same : turned st ≡ new = cc in
-    subst (λ (s : State). IsInsideState s) same (settled law st h f _ (placed_turn law (core_view st.core) (player_of st.core.source.error st.outer.element) f h.position_inside))
-turn_by law false st new e h f = absurd (cc)
+    subst (λ (s : State). IsInsideState s) same (settled st h f _ (placed_turn (core_view (core_of st)) st.element.player f h.position_inside))
+turn_by false st new e h f = absurd (cc)
 
-pub turn-placed : AreInside → (st new : State) → after_element_turn st ≡ Some new → IsInsideState st → HasFrames (core_view st.core) → IsInsideState new
-turn-placed law st new e h f = turn_by law (is_turn_due st) st new e h f
+pub turn-placed : (st new : State) → after_element_turn st ≡ Some new → IsInsideState st → HasFrames (core_view (core_of st)) → IsInsideState new
+turn-placed st new e h f = turn_by (is_turn_due st) st new e h f

@@ -1,4 +1,4 @@
--- A step of work and a turn of the element leave fewer steps, and a fired event leaves as many.
+-- A step of work leaves less work, a turn of the element fewer turns and the work, and a fired event both.
 use Rattle.std.proofs.Common.{◌≡◌, ◌∙◌, ℕ, zero, suc, ◌+◌, ◌<◌, ◌≤◌, Bool, true, false, not, ◌&&◌, ◌||◌, ◌==◌, cond, List, [], ◌∷◌, length, drop, refl, ap, sym, subst, arith}
 use Rattle.std.specs.Prelude.{Option, Some, None, slice_get, slice_set, option_map}
 use Rattle.mse_calls.specs.AnswerAndState.{AnswerAndState}
@@ -14,14 +14,13 @@ use Rattle.source_buffers.specs.State.{BufferState, BufferStates}
 use Rattle.source_buffers.specs.Slots.{SlotResult, BuffersResult, slot_turn_of, turn_in_slot, turn_by_slot, buffers_turn_of, buffers_turn}
 use Rattle.element_seek.specs.State.{PlayerState, has_ended}
 use Rattle.element_seek.specs.Turns.{is_seek_done, is_end_due, seek_turn, end_turn, no_turn}
-use Rattle.media_element.specs.Queueing as queueing
-use Rattle.mse_engine.specs.State.{State, outer_of, element_in}
-use Rattle.mse_engine.specs.Scenes.{CoreView, core_view, scene_at}
+use Rattle.media_element.specs.Queueing.{after_own_turn}
+use Rattle.mse_engine.specs.State.{State, core_of}
+use Rattle.mse_engine.specs.Scenes.{SourceView, core_view, scene_at, scene_in}
 use Rattle.mse_engine.specs.Signals.{step}
 use Rattle.mse_engine.specs.Replies.{surroundings_in}
-use Rattle.mse_engine.specs.BufferCalls.{reply_effect}
-use Rattle.mse_engine.specs.Work.{work_result, after_work, after_element_turn, is_turn_due, player_in, scene_in, without_first, fire_result}
-use Rattle.mse_engine.specs.Progress.{work_left_by, slot_work_left, work_left, turns_left, steps_left, IsOneEventLess}
+use Rattle.mse_engine.specs.Work.{turn_effect, work_result, after_work, after_element_turn, is_turn_due, without_first, fire_result}
+use Rattle.mse_engine.specs.Progress.{work_left_by, slot_work_left, work_left, turns_left, IsLessWork, IsFewerTurns, IsOneEventLess}
 
 -- ---- one step of the work of a buffer
 
@@ -113,39 +112,31 @@ buffers-fewer k a bs new e = by_slot (slice_get bs k) k a bs new refl e
 
 -- ---- a step of work
 
-pub turns-most : (s f : Bool) → turns_left s f ≤ 3
-turns-most true true = omega arith
-turns-most true false = omega arith
+pub turns-most : (s f : Bool) → turns_left s f ≤ 2
+turns-most true f = omega arith
 turns-most false true = omega arith
 turns-most false false = omega arith
 
-fewer_by : (new st : State) → work_left new.core.buffers < work_left st.core.buffers → steps_left new < steps_left st
-fewer_by new st less =
-    let most = turns-most new.outer.element.seeking new.outer.element.finished in
-    omega (arith, less, most)
-
-by_effect : (o : Option BuffersResult) (k : ℕ) (st new : State) → ((r : BuffersResult) → o ≡ Some r → work_left r.buffers < work_left st.core.buffers)
-    → work_result (option_map (λ result. reply_effect k result st.core) o) st ≡ Some new → steps_left new < steps_left st
+by_effect : (o : Option BuffersResult) (k : ℕ) (st new : State) → ((r : BuffersResult) → o ≡ Some r → work_left r.buffers < work_left st.buffers)
+    → work_result (option_map (λ result. turn_effect k result (core_of st)) o) st ≡ Some new → IsLessWork st new
 by_effect None k st new f e = absurd (cc)
 by_effect (Some r) k st new f e =
-    let same : r.buffers ≡ new.core.buffers = ap (λ (o : Option State). buffers_in o) e in
-    fewer_by new st (subst (λ (x : BufferStates). work_left x < work_left st.core.buffers) same (f r refl))
+    let same : r.buffers ≡ new.buffers = ap (λ (o : Option State). buffers_in o) e in
+    subst (λ (x : BufferStates). work_left x < work_left st.buffers) same (f r refl)
   where
     buffers_in : Option State → BufferStates
     buffers_in None = r.buffers
-    buffers_in (Some x) = x.core.buffers
+    buffers_in (Some x) = x.buffers
 
-pub work-fewer : (k : ℕ) (st new : State) → after_work k st ≡ Some new → steps_left new < steps_left st
-work-fewer k st new e = by_effect (buffers_turn k (surroundings_in k st.core.source) st.core.buffers) k st new (λ r is. buffers-fewer k (surroundings_in k st.core.source) st.core.buffers r is) e
+pub work-less : (k : ℕ) (st new : State) → after_work k st ≡ Some new → IsLessWork st new
+work-less k st new e = by_effect (buffers_turn k (surroundings_in k (core_of st).source) st.buffers) k st new (λ r is. buffers-fewer k (surroundings_in k (core_of st).source) st.buffers r is) e
 
 -- ---- a turn of the element
 
 -- also where the end of the step looks at what was told again
 seek_fewer : (s f g : Bool) → s ≡ true → turns_left false g < turns_left s f
-seek_fewer true true true e = omega arith
-seek_fewer true true false e = omega arith
-seek_fewer true false true e = omega arith
-seek_fewer true false false e = omega arith
+seek_fewer true f true e = omega arith
+seek_fewer true f false e = omega arith
 seek_fewer false f g e = absurd (cc)
 
 end_fewer : (s f h : Bool) → (not s && (h && not f)) ≡ true → turns_left s (true && h) < turns_left s f
@@ -168,10 +159,10 @@ abbrev turned_player : Bool → Bool → PlayerState → PlayerState
 turned_player a b p = (cond a (seek_turn p) (cond b (end_turn p) (no_turn p))).state
 
 -- what is told of the end of playback, behind the end of the step
-abbrev has_told_end : CoreView → PlayerState → Bool
+abbrev has_told_end : SourceView → PlayerState → Bool
 has_told_end v p = p.finished && has_ended (scene_at p.position v) p
 
-turn_fewer_by : (a b : Bool) (v : CoreView) (p : PlayerState) → is_seek_done p ≡ a → is_end_due (scene_at p.position v) p ≡ b → (a || b) ≡ true
+turn_fewer_by : (a b : Bool) (v : SourceView) (p : PlayerState) → is_seek_done p ≡ a → is_end_due (scene_at p.position v) p ≡ b → (a || b) ≡ true
     → turns_left (turned_player a b p).seeking (has_told_end v (turned_player a b p)) < turns_left p.seeking p.finished
 turn_fewer_by true b v p s e d = seek_fewer p.seeking p.finished (has_told_end v (turned_player true b p)) (both_first p.seeking (has_current_data p.level) s)
 turn_fewer_by false true v p s e d =
@@ -180,22 +171,21 @@ turn_fewer_by false true v p s e d =
 turn_fewer_by false false v p s e d = absurd (cc)
 
 abbrev pub turned : State → State
-turned st = step st.core [] (outer_of (queueing.after_own_turn (scene_in st) (element_in st.core.source.error st.outer)))
+turned st = step (core_of st) [] (after_own_turn (scene_in st) st.element)
 
-due_fewer : (st : State) → is_turn_due st ≡ true → steps_left (turned st) < steps_left st
+due_fewer : (st : State) → is_turn_due st ≡ true → IsFewerTurns st (turned st)
 due_fewer st d =
-    let v : CoreView = core_view st.core in
-    let p : PlayerState = player_in st in
-    let fewer : turns_left (turned st).outer.element.seeking (turned st).outer.element.finished < turns_left p.seeking p.finished = turn_fewer_by (is_seek_done p) (is_end_due (scene_at p.position v) p) v p refl refl d in
-    omega (arith, fewer)
+    let v : SourceView = core_view (core_of st) in
+    let p : PlayerState = st.element.player in
+    record { work = refl; turns = turn_fewer_by (is_seek_done p) (is_end_due (scene_at p.position v) p) v p refl refl d }
 
-by_due : (b : Bool) (st new : State) → is_turn_due st ≡ b → cond b (Some (turned st)) None ≡ Some new → steps_left new < steps_left st
+by_due : (b : Bool) (st new : State) → is_turn_due st ≡ b → cond b (Some (turned st)) None ≡ Some new → IsFewerTurns st new
 by_due true st new d e =
     let same : turned st ≡ new = cc in
-    subst (λ (x : State). steps_left x < steps_left st) same (due_fewer st d)
+    subst (λ (x : State). IsFewerTurns st x) same (due_fewer st d)
 by_due false st new d e = absurd (cc)
 
-pub turn-fewer : (st new : State) → after_element_turn st ≡ Some new → steps_left new < steps_left st
+pub turn-fewer : (st new : State) → after_element_turn st ≡ Some new → IsFewerTurns st new
 turn-fewer st new e = by_due (is_turn_due st) st new refl e
 
 -- ---- firing
@@ -204,16 +194,16 @@ first_gone : (q : List Event) (event : Event) → slice_get q 0 ≡ Some event �
 first_gone [] event e = absurd (cc)
 first_gone (x ∷ xs) event e = omega arith
 
-by_event : (o : Option Event) (st : State) (fired : AnswerAndState Event State) → slice_get st.outer.queue 0 ≡ o
+by_event : (o : Option Event) (st : State) (fired : AnswerAndState Event State) → slice_get st.element.queue 0 ≡ o
     → option_map (λ event. record { answer = event; state = without_first st }) o ≡ Some fired → IsOneEventLess st fired.state
 by_event None st fired at e = absurd (cc)
 by_event (Some event) st fired at e =
     let same : without_first st ≡ fired.state = ap (λ (o : Option (AnswerAndState Event State)). state_in o) e in
-    subst (λ (x : State). IsOneEventLess st x) same (refl, first_gone st.outer.queue event at)
+    subst (λ (x : State). IsOneEventLess st x) same (record { work = refl; turns = refl; events = first_gone st.element.queue event at })
   where
     state_in : Option (AnswerAndState Event State) → State
     state_in None = st
     state_in (Some a) = a.state
 
 pub fire-leaves : (st : State) (fired : AnswerAndState Event State) → fire_result st ≡ Some fired → IsOneEventLess st fired.state
-fire-leaves st fired e = by_event (slice_get st.outer.queue 0) st fired refl e
+fire-leaves st fired e = by_event (slice_get st.element.queue 0) st fired refl e

@@ -1,5 +1,5 @@
 -- A reply of which nothing comes leaves the source as it is, and the element hears nothing of it.
-use Rattle.std.proofs.Common.{◌≡◌, ◌∙◌, ◌==◌, ℕ, zero, suc, Bool, true, false, not, cond, ◌&&◌, ◌||◌, List, [], ◌∷◌, ◌++◌, length, refl, sym, ap, arith}
+use Rattle.std.proofs.Common.{◌≡◌, ◌∙◌, ◌==◌, ℕ, zero, suc, Bool, true, false, not, ◌&&◌, ◌||◌, List, [], ◌∷◌, length, refl, sym, ap, arith}
 use Rattle.std.specs.Prelude.{Option, Some, None, is_none, replicate}
 use Rattle.std.proofs.lemmas.Bool.{and_parts}
 use Rattle.std.proofs.lemmas.Bool.Decides.{Decides-int_eq, nat_tests}
@@ -18,11 +18,11 @@ use Rattle.element_seek.specs.Settling.{is_unchanged_by_settle, is_unchanged_by_
 use Rattle.source_state.specs.State.{SourceState}
 use Rattle.source_buffers.specs.State.{KeptBuffers}
 use Rattle.media_element.specs.State.{ElementState}
-use Rattle.mse_engine.specs.State.{CoreSource, outer_of}
-use Rattle.mse_engine.specs.Scenes.{CoreView}
-use Rattle.mse_engine.specs.Signals.{Tell, after_signal, after_signals, after_settling, outer_after}
-use Rattle.mse_engine.specs.Replies.{is_quiet, source_after, reply_signals}
-use Rattle.mse_engine.specs.Standing.{SourceSide, core_source, reply_view, side_after, view_of}
+use Rattle.mse_engine.specs.State.{MediaSource, core_source}
+use Rattle.mse_engine.specs.Scenes.{SourceView}
+use Rattle.mse_engine.specs.Signals.{Tell, after_signal, after_signals, after_settling}
+use Rattle.mse_engine.specs.Replies.{is_quiet, media_source_after, work_signals}
+use Rattle.mse_engine.specs.Standing.{view_of}
 
 -- ---- the reply
 
@@ -97,29 +97,21 @@ blank_stays scene d p h = blank_by (has_metadata p.level) p.finished (level_numb
 
 -- ---- the source
 
-pub quiet_side : (k : ℕ) (r : Reply) (side : SourceSide) → is_quiet r side.state ≡ true → side_after k r side ≡ side
-quiet_side k r side h = ap (λ (x : Reply). side_after k x side) (quiet_reply r side.state h)
-
-pub quiet_source : (k : ℕ) (r : Reply) (s : CoreSource) → is_quiet r s.state ≡ true → source_after k r s ≡ s
-quiet_source k r s h = ap (λ (x : Reply). source_after k x s) (quiet_reply r s.state h)
+pub quiet_source : (k : ℕ) (r : Reply) (source : MediaSource) → is_quiet r source.state ≡ true → media_source_after k r source ≡ source
+quiet_source k r source h = ap (λ (x : Reply). media_source_after k x source) (quiet_reply r source.state h)
 
 -- ---- the element
 
-nothing_told : (n : ℕ) (v : CoreView) (e : ElementState) → after_signals v (replicate n (Tell [])) e ≡ e
+nothing_told : (n : ℕ) (v : SourceView) (e : ElementState) → after_signals v (replicate n (Tell [])) e ≡ e
 nothing_told zero v e = refl
 nothing_told (suc n) v e =
     let here : after_signal v (Tell []) e ≡ e = λ i. record { player = e.player; queue = append-nil e.queue i } in
     ap (after_signals v (replicate n (Tell []))) here ∙ nothing_told n v e
 
-in_order : (first : Bool) (v : CoreView) (e : ElementState)
-    → after_signals v (Tell [] ∷ (cond first (replicate 3 (Tell [])) (replicate 3 (Tell [])) ++ Tell [] ∷ [])) e ≡ e
-in_order true v e = nothing_told 5 v e
-in_order false v e = nothing_told 5 v e
-
-pub quiet_outer : (k : ℕ) (r : Reply) (side : SourceSide) (ks : KeptBuffers) (e new : ElementState) → is_quiet r side.state ≡ true → new ≡ after_settling (view_of side ks e) e
-    → outer_of new ≡ outer_after (reply_view k r side ks e) (reply_signals k r (core_source side e)) (outer_of e)
-quiet_outer k r side ks e new h settled =
-    let quiet : r ≡ quieted r side.state.duration = quiet_reply r side.state h in
-    let told : outer_after (reply_view k (quieted r side.state.duration) side ks e) (reply_signals k (quieted r side.state.duration) (core_source side e)) (outer_of e) ≡ outer_of (after_settling (view_of side ks e) e)
-    = ap (λ (x : ElementState). outer_of (after_settling (view_of side ks e) x)) (in_order r.events_first (view_of side ks e) e) in
-    ap outer_of settled ∙ (sym told ∙ sym (ap (λ (x : Reply). outer_after (reply_view k x side ks e) (reply_signals k x (core_source side e)) (outer_of e)) quiet))
+pub quiet_element : (k : ℕ) (r : Reply) (source : MediaSource) (ks : KeptBuffers) (e new : ElementState) → is_quiet r source.state ≡ true → new ≡ after_settling (view_of source ks) e
+    → new ≡ after_settling (view_of source ks) (after_signals (view_of source ks) (work_signals k r (core_source source e)) e)
+quiet_element k r source ks e new h settled =
+    let v : SourceView = view_of source ks in
+    let quiet : r ≡ quieted r source.state.duration = quiet_reply r source.state h in
+    let told : after_signals v (work_signals k r (core_source source e)) e ≡ e = ap (λ (x : Reply). after_signals v (work_signals k x (core_source source e)) e) quiet ∙ nothing_told 3 v e in
+    settled ∙ ap (after_settling v) (sym told)

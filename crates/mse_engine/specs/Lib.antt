@@ -11,7 +11,11 @@ pub mod Work
 pub mod Run
 pub mod Views
 pub mod Positions
+pub mod Settled
+pub mod Lists
 pub mod Standing
 pub mod Progress
+pub mod DrainCounts
 pub mod Sound
 pub mod Transitions
+pub mod Examples

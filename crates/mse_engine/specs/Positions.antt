@@ -10,20 +10,21 @@ use Rattle.track_buffers.specs.Media.{Media}
 use Rattle.source_state.specs.State.{SourceState}
 use Rattle.source_buffers.specs.State.{BufferStates, media_of_all}
 use Rattle.element_seek.specs.Inside.{IsInside, IsSpanInside}
-use Rattle.mse_engine.specs.State.{ElementPart, State}
+use Rattle.element_seek.specs.State.{PlayerState}
+use Rattle.mse_engine.specs.State.{State}
 
 -- the element in the media of a source
-pub record IsPositionInside (s : SourceState) (e : ElementPart) : Type 0 where
+pub record IsPositionInside (s : SourceState) (p : PlayerState) : Type 0 where
   -- the duration is not negative
   pub lasting : is_after (pos 0) s.duration ≡ false
   -- the live seekable range neither starts before 0 nor ends before it starts
   pub live : IsSpanInside Infinite s.live
   -- where the element has metadata there is a duration
-  pub timed : has_metadata e.level ≡ true → is_nan s.duration ≡ false
+  pub timed : has_metadata p.level ≡ true → is_nan s.duration ≡ false
   -- before it has metadata it is at the start
-  pub start : has_metadata e.level ≡ false → e.position ≡ pos 0
+  pub start : has_metadata p.level ≡ false → p.position ≡ pos 0
   -- the position is neither negative nor after the duration
-  pub inside : IsInside s.duration e.position
+  pub inside : IsInside s.duration p.position
 
 abbrev pub HasNoTracks : Option Media → Type 0
 HasNoTracks None = Unit {0}
@@ -34,5 +35,5 @@ abbrev pub AreUntracked : Moment → BufferStates → Type 0
 AreUntracked d bs = is_nan d ≡ true → AllByRecursion HasNoTracks (media_of_all bs)
 
 pub record IsInsideState (st : State) : Type 0 where
-  pub position_inside : IsPositionInside st.core.source.state st.outer.element
-  pub untracked : AreUntracked st.core.source.state.duration st.core.buffers
+  pub position_inside : IsPositionInside st.source.state st.element.player
+  pub untracked : AreUntracked st.source.state.duration st.buffers

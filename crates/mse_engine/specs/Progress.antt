@@ -1,5 +1,5 @@
 -- How much can still come by itself, so that a drain, in which no call is made, ends.
-use Rattle.std.specs.Prelude.{◌≡◌, ℕ, suc, ◌+◌, ◌*◌, Bool, true, false, [], ◌∷◌, length, Option, Some, None}
+use Rattle.std.specs.Prelude.{◌≡◌, ℕ, suc, ◌+◌, ◌<◌, Bool, true, false, [], ◌∷◌, length, Option, Some, None}
 use Rattle.byte_stream.specs.Readings.{items_ahead}
 use Rattle.buffer_state.specs.declared.running.Running.{Running}
 use Rattle.buffer_state.specs.declared.running.Running.TheVariants.{Nothing, Append, Removal}
@@ -25,22 +25,33 @@ work_left (b ∷ bs) = slot_work_left b + work_left bs
 
 -- ---- turns of the element
 
--- a seek may be completed, and the end of playback told, whether the element is seeking and has told it
+-- a seek may be completed, and then the end of playback told: by whether the element is seeking, and has told it
 abbrev pub turns_left : Bool → Bool → ℕ
-turns_left true true = 2
-turns_left true false = 3
+turns_left true finished = 2
 turns_left false true = 0
 turns_left false false = 1
 
--- ---- both
+-- ---- of a state
 
--- how many steps can come by themselves at most, beside the events that are fired: behind each step of work there may
--- be as many turns as of an element that has done none
-abbrev pub steps_left : State → ℕ
-steps_left st =
-    4 * work_left st.core.buffers + turns_left st.outer.element.seeking st.outer.element.finished
+abbrev pub work_left_in : State → ℕ
+work_left_in st = work_left st.buffers
 
--- an event that is fired leaves as many, and is no longer in the queue
-abbrev pub IsOneEventLess : State → State → Type 0
-IsOneEventLess old new =
-    (steps_left new ≡ steps_left old) × (length new.outer.queue + 1 ≡ length old.outer.queue)
+abbrev pub turns_left_in : State → ℕ
+turns_left_in st = turns_left st.element.player.seeking st.element.player.finished
+
+-- ---- each step
+
+-- a step of running work leaves less work
+abbrev pub IsLessWork : State → State → Type 0
+IsLessWork old new = work_left_in new < work_left_in old
+
+-- a turn of the element leaves the work, and fewer turns
+pub record IsFewerTurns (old new : State) : Type 0 where
+  pub work : work_left_in new ≡ work_left_in old
+  pub turns : turns_left_in new < turns_left_in old
+
+-- an event that is fired leaves the work and the turns, and is no longer in the queue
+pub record IsOneEventLess (old new : State) : Type 0 where
+  pub work : work_left_in new ≡ work_left_in old
+  pub turns : turns_left_in new ≡ turns_left_in old
+  pub events : length new.element.queue + 1 ≡ length old.element.queue

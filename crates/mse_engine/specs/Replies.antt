@@ -4,16 +4,18 @@ use Rattle.mse_base.specs.Moments.{is_same_moment}
 use Rattle.mse_calls.specs.Ready.{is_ended}
 use Rattle.mse_calls.specs.declared.answers.Ready.{Ready}
 use Rattle.mse_calls.specs.declared.answers.Ready.TheVariants.{Opened, Ended}
+use Rattle.mse_calls.specs.declared.calls.EndKind.TheVariants.{Decode}
 use Rattle.mse_calls.specs.declared.events.Event.{Event}
 use Rattle.mse_calls.specs.declared.events.EventKind.TheVariants as kind
 use Rattle.mse_calls.specs.declared.events.Target.TheVariants as target
 use Rattle.mse_calls.specs.declared.views.FaultView.{FaultView}
 use Rattle.buffer_state.specs.declared.reply.Reply.{Reply}
+use Rattle.buffer_state.specs.AllCalls.{CallView, Abort, ChangeType}
 use Rattle.buffer_state.specs.State.{Surroundings}
 use Rattle.source_state.specs.State.{SourceState, is_listed_in, are_in}
 use Rattle.media_element.specs.Queueing.{event_at, events_at}
-use Rattle.mse_engine.specs.State.{CoreSource}
-use Rattle.mse_engine.specs.Signals.{Signal, Tell, Loaded}
+use Rattle.mse_engine.specs.State.{MediaSource, CoreSource}
+use Rattle.mse_engine.specs.Signals.{Signal, Tell, Loaded, StreamEnded}
 
 -- what the buffer of a number is told of the source and the element
 abbrev pub surroundings_in : ℕ → CoreSource → Surroundings
@@ -26,7 +28,7 @@ surroundings_in k s = record {
 
 -- ---- at the source
 
--- a buffer becomes active once, while it is in the list of source buffers
+-- a buffer becomes active with its first initialization segment (3.5.7), while it is in the list of source buffers
 abbrev pub is_activating : ℕ → Reply → SourceState → Bool
 is_activating k r s = r.activated && (is_listed_in k s.listed && not (is_listed_in k s.active))
 
@@ -34,7 +36,8 @@ abbrev pub active_after : ℕ → Reply → SourceState → List ℕ
 active_after k r s = if is_activating k r s then s.active ++ k ∷ [] else s.active
 
 -- The metadata is there where an initialization segment was received while the element has none, and every buffer in
--- the list has had its first one, which is that it is active.
+-- the list is active. That is that every buffer in the list has had its first one (3.5.7): `laws::active_buffers` says
+-- so.
 abbrev pub is_loading : ℕ → Reply → Bool → SourceState → Bool
 is_loading k r blank s = (r.received_init && blank) && are_in s.listed (active_after k r s)
 
@@ -87,6 +90,13 @@ source_after k r s = record {
   gap = s.gap;
 }
 
+-- of the source alone
+abbrev pub media_source_after : ℕ → Reply → MediaSource → MediaSource
+media_source_after k r source = record source {
+  state = state_after k r source.state;
+  fault = fault_after r.fault source.fault;
+}
+
 -- ---- whether anything comes of it
 
 -- nothing at the source, at the element and in the queue
@@ -100,49 +110,44 @@ is_quiet r s =
     && (is_none r.fault
     && is_same_moment r.duration s.duration)))))
 
--- ---- in the queue and at the element, in order
+-- ---- at the element and in the queue, in order
+
+abbrev pub buffer_events : ℕ → Reply → List Event
+buffer_events k r = events_at (target.Buffer k) r.events
 
 abbrev pub open_events : Reply → List Event
 open_events r = if r.reopened then (event_at target.Source kind.SourceOpen ∷ []) else []
 
 -- each change of the duration; an item and a reset only raise it, or set the first one, so that no seek follows
-abbrev pub duration_events : ℕ → List Event
-duration_events changes = replicate changes (event_at target.Element kind.DurationChange)
+abbrev pub duration_events : Reply → List Event
+duration_events r = replicate r.duration_changes (event_at target.Element kind.DurationChange)
 
-abbrev pub active_events : Bool → List Event
-active_events activates =
-    if activates then (event_at target.ActiveSourceBuffers kind.AddSourceBuffer ∷ []) else []
+-- A call on a buffer. Of an abort first the events at the buffer are told, and then what its reset of the parser brings
+-- about; a change of type fires nothing at the buffer; all other calls do not change the duration.
+abbrev pub call_events : ℕ → CallView → Reply → List Event
+call_events k Abort r = buffer_events k r ++ duration_events r
+call_events k (ChangeType answer) r = open_events r ++ duration_events r
+call_events k other r = open_events r ++ buffer_events k r
 
-abbrev pub load_signals : Bool → List Signal
-load_signals loads = if loads then (Loaded ∷ []) else []
+-- where the buffer becomes active
+abbrev pub active_events : ℕ → Reply → SourceState → List Event
+active_events k r s =
+    if is_activating k r s then (event_at target.ActiveSourceBuffers kind.AddSourceBuffer ∷ [])
+    else []
 
--- what an item or a reset of the parser brings about: how often the duration changed, whether the buffer became active,
--- and whether the metadata is there
-abbrev pub effect_signals : ℕ → Bool → Bool → List Signal
-effect_signals changes activates loads =
-    Tell (duration_events changes) ∷ Tell (active_events activates) ∷ load_signals loads
+-- where the metadata is there
+abbrev pub load_signals : ℕ → Reply → Bool → SourceState → List Signal
+load_signals k r blank s = if is_loading k r blank s then (Loaded ∷ []) else []
 
--- the events at the buffer
-abbrev pub buffer_signal : ℕ → Reply → Signal
-buffer_signal k r = Tell (events_at (target.Buffer k) r.events)
+-- the end of stream algorithm with a decode error (2.4.7), where there is a fault
+abbrev pub fault_signals : Option FaultView → List Signal
+fault_signals None = []
+fault_signals (Some fault) =
+    Tell (event_at target.Source kind.SourceEnded ∷ []) ∷ StreamEnded Decode ∷ []
 
--- those of an abort come before what its reset brings about, all others behind it
-abbrev pub middle_signals : ℕ → Reply → Bool → Bool → List Signal
-middle_signals k r activates loads =
-    if r.events_first
-    then buffer_signal k r ∷ effect_signals r.duration_changes activates loads
-    else effect_signals r.duration_changes activates loads ++ buffer_signal k r ∷ []
-
-abbrev pub error_events : ℕ → List Event
-error_events error = if error == 0 then (event_at target.Element kind.Error ∷ []) else []
-
--- the end of stream algorithm with a decode error (2.4.7): the element fires error where it has none yet
-abbrev pub fault_events : Option FaultView → ℕ → List Event
-fault_events None error = []
-fault_events (Some fault) error = event_at target.Source kind.SourceEnded ∷ error_events error
-
-abbrev pub reply_signals : ℕ → Reply → CoreSource → List Signal
-reply_signals k r s =
-    Tell (open_events r)
-    ∷ (middle_signals k r (is_activating k r s.state) (is_loading k r s.blank s.state)
-    ++ Tell (fault_events r.fault s.error) ∷ [])
+-- a step of running work: an item of an append, or the last step of an append or a removal
+abbrev pub work_signals : ℕ → Reply → CoreSource → List Signal
+work_signals k r s =
+    Tell (duration_events r)
+    ∷ Tell (active_events k r s.state)
+    ∷ (load_signals k r s.blank s.state ++ Tell (buffer_events k r) ∷ fault_signals r.fault)

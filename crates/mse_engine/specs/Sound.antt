@@ -16,11 +16,11 @@ pub record AreSoundWithin (duration : Moment) (media : List (Option Media)) : Ty
 
 -- of what the engine keeps
 abbrev pub IsSoundEngine : KeptEngine → Type 0
-IsSoundEngine k = AreSoundWithin k.side.state.duration (all_kept_media k.buffers)
+IsSoundEngine k = AreSoundWithin k.source.state.duration (all_kept_media k.buffers)
 
 -- of the machine's state
 abbrev pub IsSoundState : State → Type 0
-IsSoundState st = AreSoundWithin st.core.source.state.duration (media_of_all st.core.buffers)
+IsSoundState st = AreSoundWithin st.source.state.duration (media_of_all st.buffers)
 
 -- the state behind each entry is sound
 abbrev pub AreSoundBehind : List (List ℕ) → State → List Entry → Type 0

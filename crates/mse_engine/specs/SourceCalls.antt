@@ -27,8 +27,8 @@ use Rattle.source_buffers.specs.All.{all_buffers}
 use Rattle.media_element.specs.Queueing.{event_at}
 use Rattle.mse_calls.specs.declared.events.Event.{Event}
 use Rattle.mse_engine.specs.State.{Core}
-use Rattle.mse_engine.specs.Signals.{Signal, Tell, DurationChanged}
-use Rattle.mse_engine.specs.Replies.{buffer_signal, error_events, first_error, surroundings_in}
+use Rattle.mse_engine.specs.Signals.{Signal, Tell, DurationChanged, StreamEnded}
+use Rattle.mse_engine.specs.Replies.{buffer_events, first_error, surroundings_in}
 use Rattle.mse_engine.specs.CoreEffects.{CoreEffect, refused_effect, effect_leaving, with_state, if_finite, if_made}
 
 -- a call that the source refuses, or after which these signals are heard
@@ -92,7 +92,7 @@ removed_effect k result (removed.Refused name) s c = refused_effect name c
 removed_effect k result (removed.Gone active) s c = record {
   refused = None;
   core = record { source = with_state s c.source; buffers = result.buffers };
-  signals = buffer_signal k result.reply ∷ Tell (removal_events active) ∷ [];
+  signals = Tell (buffer_events k result.reply) ∷ Tell (removal_events active) ∷ [];
 }
 
 abbrev pub remove_effect_by : ℕ → AnswerAndState Removed SourceState → Core → CoreEffect
@@ -134,11 +134,6 @@ end_error Plain blank error = error
 end_error Network blank error = first_error 2 blank error
 end_error Decode blank error = first_error 3 blank error
 
-abbrev pub end_error_events : EndKind → ℕ → List Event
-end_error_events Plain error = []
-end_error_events Network error = error_events error
-end_error_events Decode error = error_events error
-
 abbrev pub with_end_error : EndKind → CoreEffect → CoreEffect
 with_end_error end m = record {
   refused = m.refused;
@@ -148,7 +143,7 @@ with_end_error end m = record {
             { error = end_error end m.core.source.blank m.core.source.error };
         buffers = m.core.buffers;
       };
-  signals = m.signals ++ Tell (end_error_events end m.core.source.error) ∷ [];
+  signals = m.signals ++ StreamEnded end ∷ [];
 }
 
 abbrev pub end_effect_by : Option Name → EndKind → Core → CoreEffect

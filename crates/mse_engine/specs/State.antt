@@ -1,17 +1,30 @@
--- The machine's state: a media source with its source buffers, the media element that it is attached to, and the queue
--- of the element's task source (Media Source Extensions; HTML, media elements).
-use Rattle.std.specs.Prelude.{ℕ, ℤ, Bool, true, List, [], Option, None}
-use Rattle.mse_calls.specs.declared.answers.Level.{Level}
-use Rattle.mse_calls.specs.declared.events.Event.{Event}
+-- The machine's state: a media source with its source buffers, and the media element that it is attached to, with the
+-- queue of the element's task source (Media Source Extensions; HTML, media elements).
+use Rattle.std.specs.Prelude.{ℕ, ℤ, Bool, not, [], Option, None}
+use Rattle.mse_calls.specs.Level.{has_metadata}
 use Rattle.mse_calls.specs.declared.views.FaultView.{FaultView}
 use Rattle.source_state.specs.State.{SourceState, new_source}
-use Rattle.element_seek.specs.State.{PlayerState, new_player}
-use Rattle.media_element.specs.State.{ElementState}
+use Rattle.media_element.specs.State.{ElementState, new_element}
 use Rattle.source_buffers.specs.State.{BufferStates}
 
--- What the source buffers are told of: the source, the element's error code (HTML, MediaError), whether the element is
--- blank, which is that it has no metadata (HAVE_NOTHING), the first violation of a byte stream format, the bytes that a
--- source buffer may hold, and the gap in ticks across which ranges join.
+-- The source, the first violation of a byte stream format, the bytes that a source buffer may hold, and the gap in ticks
+-- across which ranges join.
+pub record MediaSource : Type 0 where
+  pub state : SourceState
+  pub fault : Option FaultView
+  pub quota : ℕ
+  pub gap : ℤ
+
+-- There is a place for each source buffer that was ever made, empty where the buffer was removed.
+pub record State : Type 0 where
+  pub source : MediaSource
+  pub buffers : BufferStates
+  pub element : ElementState
+
+-- ---- the core
+
+-- What the source buffers are told of: the source with what is kept beside it, the element's error code (HTML,
+-- MediaError), and whether the element is blank, which is that it has no metadata (HAVE_NOTHING).
 pub record CoreSource : Type 0 where
   pub state : SourceState
   pub error : ℕ
@@ -20,68 +33,33 @@ pub record CoreSource : Type 0 where
   pub quota : ℕ
   pub gap : ℤ
 
--- The source and its buffers: a place for each number that was ever given, none where the buffer was removed.
+-- All that a step of the source and its buffers goes by, but for the position, which an eviction looks at.
 pub record Core : Type 0 where
   pub source : CoreSource
   pub buffers : BufferStates
 
--- The element, but for its error code.
-pub record ElementPart : Type 0 where
-  pub level : Level
-  pub loaded_before : Bool
-  pub position : ℤ
-  pub default_start : ℤ
-  pub paused : Bool
-  pub seeking : Bool
-  pub finished : Bool
-
--- What no source buffer is told of but the position, which an eviction looks at.
-pub record Outer : Type 0 where
-  pub element : ElementPart
-  pub queue : List Event
-
-pub record State : Type 0 where
-  pub core : Core
-  pub outer : Outer
-
--- ---- the element with its error code
-
-abbrev pub element_of : PlayerState → ElementPart
-element_of p = record {
-  level = p.level;
-  loaded_before = p.loaded_before;
-  position = p.position;
-  default_start = p.default_start;
-  paused = p.paused;
-  seeking = p.seeking;
-  finished = p.finished;
+abbrev pub core_source : MediaSource → ElementState → CoreSource
+core_source source e = record {
+  state = source.state;
+  error = e.player.error;
+  blank = not (has_metadata e.player.level);
+  fault = source.fault;
+  quota = source.quota;
+  gap = source.gap;
 }
 
-abbrev pub player_of : ℕ → ElementPart → PlayerState
-player_of error e = record {
-  level = e.level;
-  loaded_before = e.loaded_before;
-  position = e.position;
-  default_start = e.default_start;
-  paused = e.paused;
-  seeking = e.seeking;
-  finished = e.finished;
-  error = error;
-}
+abbrev pub core_of : State → Core
+core_of st = record { source = core_source st.source st.element; buffers = st.buffers }
 
-abbrev pub outer_of : ElementState → Outer
-outer_of e = record { element = element_of e.player; queue = e.queue }
-
-abbrev pub element_in : ℕ → Outer → ElementState
-element_in error o = record { player = player_of error o.element; queue = o.queue }
+-- without what is told of the element
+abbrev pub source_of : CoreSource → MediaSource
+source_of s = record { state = s.state; fault = s.fault; quota = s.quota; gap = s.gap }
 
 -- ---- the opening state
 
-abbrev pub new_core_source : ℕ → ℤ → CoreSource
-new_core_source quota gap = record {
+abbrev pub new_media_source : ℕ → ℤ → MediaSource
+new_media_source quota gap = record {
   state = new_source;
-  error = 0;
-  blank = true;
   fault = None;
   quota = quota;
   gap = gap;
@@ -90,6 +68,7 @@ new_core_source quota gap = record {
 -- with the quota of a source buffer, in bytes, and the gap, in ticks
 abbrev pub opening_state : ℕ → ℤ → State
 opening_state quota gap = record {
-  core = record { source = new_core_source quota gap; buffers = [] };
-  outer = record { element = element_of new_player; queue = [] };
+  source = new_media_source quota gap;
+  buffers = [];
+  element = new_element;
 }

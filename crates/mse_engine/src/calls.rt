@@ -4,66 +4,83 @@ ghost use Rattle.std.specs.Prelude.{◌≡◌, OnErr};
 ghost use Rattle.mse_engine.specs.Calls.{after_call};
 ghost use Rattle.mse_engine.specs.Standing.{IsEngineAnswer, IsSteady, kept_engine};
 
-use crate::side::SourceSide;
+use crate::media_source::MediaSource;
 use crate::{buffer_calls as of_buffer, element_calls as of_element, source_calls as of_source};
+use buffer_state::BufferCall;
 use media_element::Element;
 use mse_base::OutOfMemory;
 use mse_calls::{Answer, Blobs, Call};
+use mse_types::read_type;
 use source_buffers::SourceBuffers;
 use track_store::FrameStore;
 
 /// Makes a call: it is made at once, and its events are queued.
 pub(crate) fn make_call<S: FrameStore>(
-    side: &mut SourceSide,
+    source: &mut MediaSource,
     buffers: &mut SourceBuffers<S>,
     element: &mut Element,
     call: &Call,
     blobs: &Blobs,
 ) -> Result<Answer, OutOfMemory>
-    requires steady { IsSteady (kept_engine side.old buffers.old.buffers element.old.state) }
+    requires steady { IsSteady (kept_engine source.old buffers.old.buffers element.old.state) }
     ensures answered { IsEngineAnswer
-        (kept_engine side.old buffers.old.buffers element.old.state) result
-        (kept_engine side.new buffers.new.buffers element.new.state)
+        (kept_engine source.old buffers.old.buffers element.old.state) result
+        (kept_engine source.new buffers.new.buffers element.new.state)
         (after_call blobs.now call.now) }
-    ensures steady { IsSteady (kept_engine side.new buffers.new.buffers element.new.state) }
-    ensures err { OnErr result (kept_engine side.new buffers.new.buffers element.new.state
-        ≡ kept_engine side.old buffers.old.buffers element.old.state) }
+    ensures steady { IsSteady (kept_engine source.new buffers.new.buffers element.new.state) }
+    ensures err { OnErr result (kept_engine source.new buffers.new.buffers element.new.state
+        ≡ kept_engine source.old buffers.old.buffers element.old.state) }
 {
     match call {
-        Call::Attach => of_source::attach(side, buffers, element),
+        Call::Attach => of_source::attach(source, buffers, element),
         Call::AddSourceBuffer(text) => {
-            of_source::add_source_buffer(side, buffers, element, text.as_str())
+            of_source::add_source_buffer(source, buffers, element, text.as_str())
         }
         Call::RemoveSourceBuffer(k) => {
-            of_source::remove_source_buffer(side, buffers, element, *k)
+            of_source::remove_source_buffer(source, buffers, element, *k)
         }
-        Call::SetDuration(d) => of_source::set_duration(side, buffers, element, *d),
-        Call::EndOfStream(kind) => of_source::end_of_stream(side, buffers, element, *kind),
-        Call::SetLiveSeekableRange(a, b) => of_source::set_live(side, buffers, element, *a, *b),
-        Call::ClearLiveSeekableRange => of_source::clear_live(side, buffers, element),
-        Call::SetMode(k, mode) => of_buffer::set_mode(side, buffers, element, *k, *mode),
-        Call::SetTimestampOffset(k, t) => of_buffer::set_offset(side, buffers, element, *k, *t),
+        Call::SetDuration(d) => of_source::set_duration(source, buffers, element, *d),
+        Call::EndOfStream(kind) => of_source::end_of_stream(source, buffers, element, *kind),
+        Call::SetLiveSeekableRange(a, b) => of_source::set_live(source, buffers, element, *a, *b),
+        Call::ClearLiveSeekableRange => of_source::clear_live(source, buffers, element),
+        Call::SetMode(k, mode) => {
+            of_buffer::call(source, buffers, element, *k, &BufferCall::SetMode(*mode))
+        }
+        Call::SetTimestampOffset(k, t) => {
+            of_buffer::call(source, buffers, element, *k, &BufferCall::SetOffset(*t))
+        }
         Call::SetAppendWindowStart(k, t) => {
-            of_buffer::set_window_start(side, buffers, element, *k, *t)
+            of_buffer::call(
+                source,
+                buffers,
+                element,
+                *k,
+                &BufferCall::SetWindowStart(*t),
+            )
         }
         Call::SetAppendWindowEnd(k, t) => {
-            of_buffer::set_window_end(side, buffers, element, *k, *t)
+            of_buffer::call(source, buffers, element, *k, &BufferCall::SetWindowEnd(*t))
         }
         Call::AppendBuffer(k, piece) => {
-            of_buffer::append(side, buffers, element, *k, piece, blobs)
+            let bytes = blobs.shared_part(piece)?;
+            let append = BufferCall::Append(bytes.as_ref());
+            of_buffer::call(source, buffers, element, *k, &append)
         }
-        Call::Abort(k) => of_buffer::abort(side, buffers, element, *k),
-        Call::Remove(k, a, b) => of_buffer::remove(side, buffers, element, *k, *a, *b),
+        Call::Abort(k) => of_buffer::call(source, buffers, element, *k, &BufferCall::Abort),
+        Call::Remove(k, a, b) => {
+            of_buffer::call(source, buffers, element, *k, &BufferCall::Remove(*a, *b))
+        }
         Call::ChangeType(k, text) => {
-            of_buffer::change_type(side, buffers, element, *k, text.as_str())
+            let change = BufferCall::ChangeType(read_type(text.as_str()));
+            of_buffer::call(source, buffers, element, *k, &change)
         }
-        Call::Buffered(k) => of_buffer::buffered(side, buffers, *k),
-        Call::SourceState => Ok(Answer::State(of_element::state_view(side, element))),
-        Call::Seek(t) => of_element::seek(side, buffers, element, *t),
-        Call::Play => of_element::play(side, buffers, element),
-        Call::Pause => of_element::pause(side, buffers, element),
-        Call::Advance(t) => of_element::advance(side, buffers, element, *t),
-        Call::ElementBuffered => of_element::element_buffered(side, buffers),
-        Call::Seekable => of_element::seekable(side, buffers),
+        Call::Buffered(k) => of_buffer::buffered(source, buffers, *k),
+        Call::SourceState => Ok(Answer::State(of_element::state_view(source, element))),
+        Call::Seek(t) => of_element::seek(source, buffers, element, *t),
+        Call::Play => of_element::play(source, buffers, element),
+        Call::Pause => of_element::pause(source, buffers, element),
+        Call::Advance(t) => of_element::advance(source, buffers, element, *t),
+        Call::ElementBuffered => of_element::element_buffered(source, buffers),
+        Call::Seekable => of_element::seekable(source, buffers),
     }
 }

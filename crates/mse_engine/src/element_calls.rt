@@ -3,13 +3,13 @@
 ghost use Rattle.std.specs.Prelude.{◌≡◌, [], OnErr};
 ghost use Rattle.mse_calls.specs.declared.calls.Call.TheVariants as call;
 ghost use Rattle.media_element.specs.State.{ElementState};
-ghost use Rattle.mse_engine.specs.State.{State, outer_of};
+ghost use Rattle.mse_engine.specs.State.{State};
 ghost use Rattle.mse_engine.specs.Calls.{after_call, state_view};
-ghost use Rattle.mse_engine.specs.Standing.{IsEngineAnswer, IsSteady, core_source, kept_engine};
+ghost use Rattle.mse_engine.specs.Standing.{IsEngineAnswer, IsSteady, kept_engine};
 
 use crate::finish::{PLACES, settle};
+use crate::media_source::MediaSource;
 use crate::scenes;
-use crate::side::SourceSide;
 use crate::source_calls::answer_by;
 use media_element::Element;
 use mse_base::{Moment, OutOfMemory};
@@ -19,109 +19,109 @@ use track_store::FrameStore;
 
 /// Seeks to a time.
 pub(crate) fn seek<S: FrameStore>(
-    side: &SourceSide,
+    source: &MediaSource,
     buffers: &SourceBuffers<S>,
     element: &mut Element,
     t: Moment,
 ) -> Result<Answer, OutOfMemory>
-    requires steady { IsSteady (kept_engine side.now buffers.now.buffers element.old.state) }
+    requires steady { IsSteady (kept_engine source.now buffers.now.buffers element.old.state) }
     ensures answered { IsEngineAnswer
-        (kept_engine side.now buffers.now.buffers element.old.state) result
-        (kept_engine side.now buffers.now.buffers element.new.state)
+        (kept_engine source.now buffers.now.buffers element.old.state) result
+        (kept_engine source.now buffers.now.buffers element.new.state)
         (after_call [] (call.Seek t)) }
-    ensures steady { IsSteady (kept_engine side.now buffers.now.buffers element.new.state) }
-    ensures err { OnErr result (kept_engine side.now buffers.now.buffers element.new.state
-        ≡ kept_engine side.now buffers.now.buffers element.old.state) }
+    ensures steady { IsSteady (kept_engine source.now buffers.now.buffers element.new.state) }
+    ensures err { OnErr result (kept_engine source.now buffers.now.buffers element.new.state
+        ≡ kept_engine source.now buffers.now.buffers element.old.state) }
 {
     let Moment::At(t) = t else {
         return Ok(Answer::Refused(Name::TypeError));
     };
     element.reserve(PLACES)?;
-    let seekable = scenes::seekable(side, buffers)?;
-    let scene = scenes::scene(side, buffers, element, seekable);
+    let seekable = scenes::seekable(source, buffers)?;
+    let scene = scenes::scene(source, buffers, element, seekable);
     element.seek(t, &scene);
-    settle(side, buffers, element);
+    settle(source, buffers, element);
     Ok(Answer::Done)
 }
 
 /// Plays.
 pub(crate) fn play<S: FrameStore>(
-    side: &SourceSide,
+    source: &MediaSource,
     buffers: &SourceBuffers<S>,
     element: &mut Element,
 ) -> Result<Answer, OutOfMemory>
-    requires steady { IsSteady (kept_engine side.now buffers.now.buffers element.old.state) }
+    requires steady { IsSteady (kept_engine source.now buffers.now.buffers element.old.state) }
     ensures answered { IsEngineAnswer
-        (kept_engine side.now buffers.now.buffers element.old.state) result
-        (kept_engine side.now buffers.now.buffers element.new.state)
+        (kept_engine source.now buffers.now.buffers element.old.state) result
+        (kept_engine source.now buffers.now.buffers element.new.state)
         (after_call [] call.Play) }
-    ensures steady { IsSteady (kept_engine side.now buffers.now.buffers element.new.state) }
-    ensures err { OnErr result (kept_engine side.now buffers.now.buffers element.new.state
-        ≡ kept_engine side.now buffers.now.buffers element.old.state) }
+    ensures steady { IsSteady (kept_engine source.now buffers.now.buffers element.new.state) }
+    ensures err { OnErr result (kept_engine source.now buffers.now.buffers element.new.state
+        ≡ kept_engine source.now buffers.now.buffers element.old.state) }
 {
     element.reserve(PLACES)?;
-    let seekable = scenes::seekable(side, buffers)?;
-    let scene = scenes::scene(side, buffers, element, seekable);
+    let seekable = scenes::seekable(source, buffers)?;
+    let scene = scenes::scene(source, buffers, element, seekable);
     let refusal = element.play(&scene);
-    settle(side, buffers, element);
+    settle(source, buffers, element);
     Ok(answer_by(refusal))
 }
 
 /// Pauses.
 pub(crate) fn pause<S: FrameStore>(
-    side: &SourceSide,
+    source: &MediaSource,
     buffers: &SourceBuffers<S>,
     element: &mut Element,
 ) -> Result<Answer, OutOfMemory>
-    requires steady { IsSteady (kept_engine side.now buffers.now.buffers element.old.state) }
+    requires steady { IsSteady (kept_engine source.now buffers.now.buffers element.old.state) }
     ensures answered { IsEngineAnswer
-        (kept_engine side.now buffers.now.buffers element.old.state) result
-        (kept_engine side.now buffers.now.buffers element.new.state)
+        (kept_engine source.now buffers.now.buffers element.old.state) result
+        (kept_engine source.now buffers.now.buffers element.new.state)
         (after_call [] call.Pause) }
-    ensures steady { IsSteady (kept_engine side.now buffers.now.buffers element.new.state) }
-    ensures err { OnErr result (kept_engine side.now buffers.now.buffers element.new.state
-        ≡ kept_engine side.now buffers.now.buffers element.old.state) }
+    ensures steady { IsSteady (kept_engine source.now buffers.now.buffers element.new.state) }
+    ensures err { OnErr result (kept_engine source.now buffers.now.buffers element.new.state
+        ≡ kept_engine source.now buffers.now.buffers element.old.state) }
 {
     element.reserve(PLACES)?;
     element.pause();
-    settle(side, buffers, element);
+    settle(source, buffers, element);
     Ok(Answer::Done)
 }
 
 /// Lets a length of time pass.
 pub(crate) fn advance<S: FrameStore>(
-    side: &SourceSide,
+    source: &MediaSource,
     buffers: &SourceBuffers<S>,
     element: &mut Element,
     t: Moment,
 ) -> Result<Answer, OutOfMemory>
-    requires steady { IsSteady (kept_engine side.now buffers.now.buffers element.old.state) }
+    requires steady { IsSteady (kept_engine source.now buffers.now.buffers element.old.state) }
     ensures answered { IsEngineAnswer
-        (kept_engine side.now buffers.now.buffers element.old.state) result
-        (kept_engine side.now buffers.now.buffers element.new.state)
+        (kept_engine source.now buffers.now.buffers element.old.state) result
+        (kept_engine source.now buffers.now.buffers element.new.state)
         (after_call [] (call.Advance t)) }
-    ensures steady { IsSteady (kept_engine side.now buffers.now.buffers element.new.state) }
-    ensures err { OnErr result (kept_engine side.now buffers.now.buffers element.new.state
-        ≡ kept_engine side.now buffers.now.buffers element.old.state) }
+    ensures steady { IsSteady (kept_engine source.now buffers.now.buffers element.new.state) }
+    ensures err { OnErr result (kept_engine source.now buffers.now.buffers element.new.state
+        ≡ kept_engine source.now buffers.now.buffers element.old.state) }
 {
     let Moment::At(t) = t else {
         return Ok(Answer::Refused(Name::TypeError));
     };
     element.reserve(PLACES)?;
-    let scene = scenes::scene(side, buffers, element, None);
+    let scene = scenes::scene(source, buffers, element, None);
     let refusal = element.advance(t, &scene);
-    settle(side, buffers, element);
+    settle(source, buffers, element);
     Ok(answer_by(refusal))
 }
 
 /// The state of the source and of the element.
-pub(crate) fn state_view(side: &SourceSide, element: &Element) -> StateView
-    ensures { (st : State) → core_source side.now element.now.state ≡ st.core.source
-        → outer_of element.now.state ≡ st.outer → result ≡ state_view st }
+pub(crate) fn state_view(source: &MediaSource, element: &Element) -> StateView
+    ensures { (st : State) → source.now ≡ st.source → element.now.state ≡ st.element
+        → result ≡ state_view st }
 {
     StateView {
-        source: side.source.ready(),
-        duration: side.source.duration(),
+        source: source.state.ready(),
+        duration: source.state.duration(),
         level: element.level(),
         position: element.position(),
         paused: element.paused(),
@@ -132,27 +132,27 @@ pub(crate) fn state_view(side: &SourceSide, element: &Element) -> StateView
 
 /// What is buffered at the element.
 pub(crate) fn element_buffered<S: FrameStore>(
-    side: &SourceSide,
+    source: &MediaSource,
     buffers: &SourceBuffers<S>,
 ) -> Result<Answer, OutOfMemory>
-    ensures { (e : ElementState) → IsSteady (kept_engine side.now buffers.now.buffers e)
-        → IsEngineAnswer (kept_engine side.now buffers.now.buffers e) result
-        (kept_engine side.now buffers.now.buffers e)
+    ensures { (e : ElementState) → IsSteady (kept_engine source.now buffers.now.buffers e)
+        → IsEngineAnswer (kept_engine source.now buffers.now.buffers e) result
+        (kept_engine source.now buffers.now.buffers e)
         (after_call [] call.ElementBuffered) }
 {
-    let ranges = scenes::buffered(side, buffers)?;
+    let ranges = scenes::buffered(source, buffers)?;
     Ok(Answer::Ranges(TimeRanges::new(ranges)))
 }
 
 /// What can be sought.
 pub(crate) fn seekable<S: FrameStore>(
-    side: &SourceSide,
+    source: &MediaSource,
     buffers: &SourceBuffers<S>,
 ) -> Result<Answer, OutOfMemory>
-    ensures { (e : ElementState) → IsSteady (kept_engine side.now buffers.now.buffers e)
-        → IsEngineAnswer (kept_engine side.now buffers.now.buffers e) result
-        (kept_engine side.now buffers.now.buffers e)
+    ensures { (e : ElementState) → IsSteady (kept_engine source.now buffers.now.buffers e)
+        → IsEngineAnswer (kept_engine source.now buffers.now.buffers e) result
+        (kept_engine source.now buffers.now.buffers e)
         (after_call [] call.Seekable) }
 {
-    Ok(Answer::Range(scenes::seekable(side, buffers)?))
+    Ok(Answer::Range(scenes::seekable(source, buffers)?))
 }

@@ -10,16 +10,17 @@ ghost use Rattle.mse_engine.specs.Calls.{after_call};
 ghost use Rattle.mse_engine.specs.Refusals.{call_refusal};
 ghost use Rattle.mse_engine.specs.Work.{after_element_turn, after_work, is_turn_due, fire_result, running_in, has_event_in};
 ghost use Rattle.mse_engine.specs.Views.{span_in, view_in};
+ghost use Rattle.mse_engine.specs.Settled.{IsSettledState};
+ghost use Rattle.mse_engine.specs.Lists.{AreListsSame};
 ghost use Rattle.mse_engine.specs.Sound.{IsSoundEngine};
 ghost use Rattle.mse_engine.specs.Standing.{IsEngineAnswer, IsFewerWork, IsFired, IsStanding, IsWork, Stands};
 
 use crate::calls::make_call;
 use crate::fault::EngineFault;
+use crate::media_source::MediaSource;
 use crate::refusals::call_refusal;
-use crate::side::SourceSide;
 use crate::steps::{turn_by_itself, work_on};
 use crate::{element_calls, scenes};
-use element_seek::laws::position_inside;
 use media_element::Element;
 use mse_base::{Span, Ticks};
 use mse_calls::{Answer, Blobs, BufferViews, Call, Event, FaultView, Name, View};
@@ -40,7 +41,7 @@ pub enum Worked {
 /// A media source, its source buffers, the element and the queue of events.
 #[derive(Drop)]
 pub struct Engine<S: FrameStore> {
-    side: SourceSide,
+    source: MediaSource,
     buffers: SourceBuffers<S>,
     element: Element,
 }
@@ -50,10 +51,10 @@ impl<S: FrameStore> Model for Engine<S> {
 
     ghost Value = { KeptEngine };
 
-    ghost view = { λ e. kept_engine e.side e.buffers.buffers e.element.state };
+    ghost view = { λ e. kept_engine e.source e.buffers.buffers e.element.state };
 
     ghost invariant = { λ e. HasEngineInvariants
-        (kept_engine e.side e.buffers.buffers e.element.state) };
+        (kept_engine e.source e.buffers.buffers e.element.state) };
 }
 
 impl<S: FrameStore> Engine<S> {
@@ -64,7 +65,7 @@ impl<S: FrameStore> Engine<S> {
         ensures { Stands result (opening_state quota gap) }
     {
         Engine {
-            side: SourceSide::new(alloc, quota, gap),
+            source: MediaSource::new(alloc, quota, gap),
             buffers: SourceBuffers::new(alloc),
             element: Element::new(alloc),
         }
@@ -80,10 +81,8 @@ impl<S: FrameStore> Engine<S> {
         ensures sound { OnOk result (IsSoundEngine self.new) }
         ensures err { OnErr result (self.new ≡ self.old) }
     {
-        // The proof reads off this that the position stays inside the media.
-        position_inside();
         let answer = make_call(
-            &mut self.side,
+            &mut self.source,
             &mut self.buffers,
             &mut self.element,
             call,
@@ -101,7 +100,7 @@ impl<S: FrameStore> Engine<S> {
     pub fn refusal(&self, call: &Call, blobs: &Blobs) -> Option<Name>
         ensures { (st : State) → Stands self.now st → result ≡ call_refusal blobs.now call.now st }
     {
-        call_refusal(&self.side, &self.buffers, &self.element, call, blobs)
+        call_refusal(&self.source, &self.buffers, &self.element, call, blobs)
     }
 
     /// Fires the first event of the queue; `None` exactly where it is empty.
@@ -128,9 +127,7 @@ impl<S: FrameStore> Engine<S> {
         ensures sound { OnOk result (IsSoundEngine self.new) }
         ensures err { OnErr result (self.new ≡ self.old) }
     {
-        // The proof reads off this that the position stays inside the media.
-        position_inside();
-        let answer = work_on(&mut self.side, &mut self.buffers, &mut self.element, k)?;
+        let answer = work_on(&mut self.source, &mut self.buffers, &mut self.element, k)?;
         // The proof reads off this that the tracks are sound.
         self.buffers.sound();
         Ok(answer)
@@ -147,9 +144,7 @@ impl<S: FrameStore> Engine<S> {
         ensures sound { OnOk result (IsSoundEngine self.new) }
         ensures err { OnErr result (self.new ≡ self.old) }
     {
-        // The proof reads off this that the position stays inside the media.
-        position_inside();
-        let answer = turn_by_itself(&self.side, &self.buffers, &mut self.element)?;
+        let answer = turn_by_itself(&self.source, &self.buffers, &mut self.element)?;
         // The proof reads off this that the tracks are sound.
         self.buffers.sound();
         Ok(answer)
@@ -166,7 +161,7 @@ impl<S: FrameStore> Engine<S> {
     pub fn due(&self) -> bool
         ensures { (st : State) → Stands self.now st → result ≡ is_turn_due st }
     {
-        let scene = scenes::scene(&self.side, &self.buffers, &self.element, None);
+        let scene = scenes::scene(&self.source, &self.buffers, &self.element, None);
         self.element.due(&scene)
     }
 
@@ -182,14 +177,14 @@ impl<S: FrameStore> Engine<S> {
     pub fn element_span(&self) -> Option<Span>
         ensures { (st : State) → Stands self.now st → result ≡ span_in st }
     {
-        scenes::span_at(&self.side, &self.buffers, self.element.position())
+        scenes::span_at(&self.source, &self.buffers, self.element.position())
     }
 
     /// The first violation of a byte stream format, if there was one.
     pub fn fault(&self) -> Option<FaultView>
-        ensures { (st : State) → Stands self.now st → result ≡ st.core.source.fault }
+        ensures { (st : State) → Stands self.now st → result ≡ st.source.fault }
     {
-        self.side.fault
+        self.source.fault
     }
 
     /// What is shown of the whole engine: the state of source and element, each buffer in order of
@@ -197,11 +192,11 @@ impl<S: FrameStore> Engine<S> {
     pub fn view(&self) -> Result<View, EngineFault>
         ensures { (st : State) → Stands self.now st → IfOk result (λ view. view ≡ view_in st) }
     {
-        let buffers = self.buffers.views(self.side.source.ready().is_ended())?;
+        let buffers = self.buffers.views(self.source.state.ready().is_ended())?;
         Ok(View {
-            state: element_calls::state_view(&self.side, &self.element),
+            state: element_calls::state_view(&self.source, &self.element),
             buffers: BufferViews::from_vec(buffers),
-            fault: self.side.fault,
+            fault: self.source.fault,
         })
     }
 
@@ -218,13 +213,18 @@ impl<S: FrameStore> Engine<S> {
     /// Each track buffer is sound: each frame that it holds is a random access point, or the frame
     /// received just before it is held too. And each frame ends within the duration. The position is
     /// neither negative nor after the duration, and where the element has metadata there is a
-    /// duration. There is a state that it stands for. It does nothing when it runs.
+    /// duration. The level is that of the position, and where playback has not ended its end was not
+    /// told. A buffer is in the list of source buffers exactly where its slot is filled, and active
+    /// exactly where it is in the list and has had its first initialization segment. There is a state
+    /// that it stands for. It does nothing when it runs.
     pub fn sound(&self)
         ensures sound { IsSoundEngine self.now }
-        ensures position_inside { IsInside self.now.side.state.duration
+        ensures position_inside { IsInside self.now.source.state.duration
             self.now.element.player.position }
         ensures has_duration { has_metadata self.now.element.player.level ≡ true
-            → is_nan self.now.side.state.duration ≡ false }
+            → is_nan self.now.source.state.duration ≡ false }
+        ensures settled { (st : State) → Stands self.now st → IsSettledState st }
+        ensures lists { AreListsSame self.now.source.state (all_kept_media self.now.buffers) }
         ensures standing { IsStanding self.now }
     {
         // The proof reads off this that the tracks are sound.

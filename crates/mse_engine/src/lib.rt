@@ -16,9 +16,9 @@ mod engine;
 mod fault;
 mod finish;
 pub mod laws;
+mod media_source;
 mod refusals;
 mod scenes;
-mod side;
 mod source_calls;
 mod steps;
 

@@ -6,15 +6,17 @@ ghost use Rattle.mse_calls.specs.Pieces.{bytes_of};
 ghost use Rattle.source_state.specs.Calls.{after_attach, after_clear_live, after_remove_buffer, after_set_duration, duration_name, end_refusal, remove_name};
 ghost use Rattle.source_buffers.specs.State.{AreSlotsStanding, all_kept_media, all_kept_running};
 ghost use Rattle.source_buffers.specs.All.{all_buffers};
-ghost use Rattle.mse_engine.specs.State.{Core, Outer, State};
-ghost use Rattle.mse_engine.specs.Scenes.{CoreView};
+ghost use Rattle.media_element.specs.State.{ElementState};
+ghost use Rattle.mse_engine.specs.State.{Core, State, core_of};
+ghost use Rattle.mse_engine.specs.Scenes.{SourceView};
 ghost use Rattle.mse_engine.specs.SourceCalls.{add_effect, set_live_effect};
-ghost use Rattle.mse_engine.specs.BufferCalls.{remove_frames_effect, window_start_effect};
+ghost use Rattle.buffer_state.specs.AllCalls.{Append, call_view, input_at};
 ghost use Rattle.mse_engine.specs.Calls.{advance_effect, read_effect, seek_effect};
-ghost use Rattle.mse_engine.specs.Refusals.{append_call_refusal, call_refusal, offset_call_refusal};
+ghost use Rattle.mse_engine.specs.Refusals.{buffer_refusal, call_refusal};
 ghost use Rattle.mse_engine.specs.Standing.{Stands, kept_engine};
 
-use crate::side::{SourceSide, around};
+use crate::media_source::{MediaSource, around};
+use buffer_state::BufferCall;
 use media_element::Element;
 use mse_base::{Moment, Ticks};
 use mse_calls::{Blobs, Call, Name, Piece};
@@ -25,66 +27,66 @@ use track_store::FrameStore;
 // ---- calls on the source
 
 /// That of attaching the source.
-fn attach_refusal(side: &SourceSide) -> Option<Name>
-    ensures { result ≡ (after_attach side.now.state).answer }
+fn attach_refusal(source: &MediaSource) -> Option<Name>
+    ensures { result ≡ (after_attach source.now.state).answer }
 {
-    side.source.attach_refusal()
+    source.state.attach_refusal()
 }
 
 /// That of adding a source buffer of a type.
-fn add_refusal(side: &SourceSide, text: &str) -> Option<Name>
-    ensures { (c : Core) → c.source.state ≡ side.now.state
+fn add_refusal(source: &MediaSource, text: &str) -> Option<Name>
+    ensures { (c : Core) → c.source.state ≡ source.now.state
         → result ≡ (add_effect text.now c).refused }
 {
     match read_type(text) {
         TypeAnswer::Empty => Some(Name::TypeError),
         TypeAnswer::Unsupported => Some(Name::NotSupported),
-        TypeAnswer::Supported(_) => side.source.add_refusal(),
+        TypeAnswer::Supported(_) => source.state.add_refusal(),
     }
 }
 
 /// That of removing a source buffer.
 fn removal_refusal<S: FrameStore>(
-    side: &SourceSide,
+    source: &MediaSource,
     buffers: &SourceBuffers<S>,
     k: u32,
 ) -> Option<Name>
     ensures { result ≡ (if nat_lt k (length buffers.now.buffers)
-        then remove_name (after_remove_buffer k side.now.state).answer
+        then remove_name (after_remove_buffer k source.now.state).answer
         else Some name.NoSuchBuffer) }
 {
     if !buffers.is_made(k) {
         return Some(Name::NoSuchBuffer);
     }
-    side.source.remove_refusal(k)
+    source.state.remove_refusal(k)
 }
 
 /// That of setting the duration.
 fn duration_refusal<S: FrameStore>(
-    side: &SourceSide,
+    source: &MediaSource,
     buffers: &SourceBuffers<S>,
     duration: Moment,
 ) -> Option<Name>
     ensures { result ≡ duration_name (after_set_duration duration
         (all_buffers (all_kept_running buffers.now.buffers) (all_kept_media buffers.now.buffers))
-        side.now.state).answer }
+        source.now.state).answer }
 {
     let all = buffers.all_buffers();
-    side.source.duration_refusal(duration, &all)
+    source.state.duration_refusal(duration, &all)
 }
 
 /// That of ending the stream.
-fn end_refusal<S: FrameStore>(side: &SourceSide, buffers: &SourceBuffers<S>) -> Option<Name>
+fn end_refusal<S: FrameStore>(source: &MediaSource, buffers: &SourceBuffers<S>) -> Option<Name>
     ensures { result ≡ end_refusal (all_buffers (all_kept_running buffers.now.buffers)
-        (all_kept_media buffers.now.buffers)).updating side.now.state }
+        (all_kept_media buffers.now.buffers)).updating source.now.state }
 {
     let all = buffers.all_buffers();
-    side.source.end_refusal(all.updating)
+    source.state.end_refusal(all.updating)
 }
 
 /// That of setting the live seekable range.
-fn set_live_refusal(side: &SourceSide, start: Moment, end: Moment) -> Option<Name>
-    ensures { (c : Core) → c.source.state ≡ side.now.state
+fn set_live_refusal(source: &MediaSource, start: Moment, end: Moment) -> Option<Name>
+    ensures { (c : Core) → c.source.state ≡ source.now.state
         → result ≡ (set_live_effect start end c).refused }
 {
     let Moment::At(start) = start else {
@@ -93,101 +95,54 @@ fn set_live_refusal(side: &SourceSide, start: Moment, end: Moment) -> Option<Nam
     let Moment::At(end) = end else {
         return Some(Name::TypeError);
     };
-    side.source.set_live_refusal(start, end)
+    source.state.set_live_refusal(start, end)
 }
 
 /// That of clearing the live seekable range.
-fn clear_live_refusal(side: &SourceSide) -> Option<Name>
-    ensures { result ≡ (after_clear_live side.now.state).answer }
+fn clear_live_refusal(source: &MediaSource) -> Option<Name>
+    ensures { result ≡ (after_clear_live source.now.state).answer }
 {
-    side.source.clear_live_refusal()
+    source.state.clear_live_refusal()
 }
 
 // ---- calls on a source buffer
 
-/// That of a call on a buffer with a time that is not finite: a buffer that was never made comes
-/// first.
-fn time_refusal<S: FrameStore>(buffers: &SourceBuffers<S>, k: u32) -> Option<Name>
-    ensures { result ≡ (if nat_lt k (length buffers.now.buffers)
-        then Some name.TypeError else Some name.NoSuchBuffer) }
-{
-    if buffers.is_made(k) {
-        Some(Name::TypeError)
-    } else {
-        Some(Name::NoSuchBuffer)
-    }
-}
-
-/// That of setting the timestamp offset.
-fn offset_refusal<S: FrameStore>(
-    side: &SourceSide,
+/// That of a call on the buffer of a number.
+fn buffer_refusal<S: FrameStore>(
+    source: &MediaSource,
     buffers: &SourceBuffers<S>,
     element: &Element,
     k: u32,
-    t: Moment,
+    call: &BufferCall,
 ) -> Option<Name>
-    ensures { (st : State) → Stands (kept_engine side.now buffers.now.buffers element.now.state) st
-        → result ≡ offset_call_refusal k t st.core }
+    ensures { (st : State) → Stands
+        (kept_engine source.now buffers.now.buffers element.now.state) st
+        → result ≡ buffer_refusal k
+        (call_view st.element.player.position st.source.quota call.now) (core_of st) }
 {
-    let Moment::At(_) = t else {
-        return time_refusal(buffers, k);
-    };
-    buffers.offset_refusal(k, &around(side, element, k))
+    buffers.refusal_of(k, call, &around(source, element, k))
 }
 
-/// That of setting the start of the append window.
-fn window_start_refusal<S: FrameStore>(
-    buffers: &SourceBuffers<S>,
-    k: u32,
-    t: Moment,
-) -> Option<Name>
-    ensures { (c : Core) → AreSlotsStanding buffers.now.buffers c.buffers
-        → result ≡ (window_start_effect k t c).refused }
-{
-    let Moment::At(t) = t else {
-        return time_refusal(buffers, k);
-    };
-    buffers.window_start_refusal(k, t)
-}
-
-/// That of a removal of coded frames.
-fn remove_frames_refusal<S: FrameStore>(
-    side: &SourceSide,
-    buffers: &SourceBuffers<S>,
-    element: &Element,
-    k: u32,
-    start: Moment,
-    end: Moment,
-) -> Option<Name>
-    ensures { (st : State) → Stands (kept_engine side.now buffers.now.buffers element.now.state) st
-        → result ≡ (remove_frames_effect k start end st.core).refused }
-{
-    let Moment::At(start) = start else {
-        return time_refusal(buffers, k);
-    };
-    buffers.remove_frames_refusal(k, start, end, &around(side, element, k))
-}
-
-/// That of an append of a piece of a blob: never for the quota, which is looked at behind an
-/// eviction.
+/// That of an append of a piece of a blob, which is the same for all bytes that there are: never for
+/// the quota, which is looked at behind an eviction.
 fn append_refusal<S: FrameStore>(
-    side: &SourceSide,
+    source: &MediaSource,
     buffers: &SourceBuffers<S>,
     element: &Element,
     k: u32,
     piece: &Piece,
     blobs: &Blobs,
 ) -> Option<Name>
-    ensures { (st : State) → Stands (kept_engine side.now buffers.now.buffers element.now.state) st
-        → result ≡ append_call_refusal (bytes_of blobs.now piece.now) k st.core }
+    ensures { (st : State) → Stands
+        (kept_engine source.now buffers.now.buffers element.now.state) st
+        → result ≡ buffer_refusal k (Append (input_at st.element.player.position
+        st.source.quota (bytes_of blobs.now piece.now))) (core_of st) }
 {
-    if !buffers.is_made(k) {
-        return Some(Name::NoSuchBuffer);
-    }
-    let Some(_) = blobs.part(piece) else {
-        return Some(Name::NoSuchBytes);
+    let bytes = match blobs.part(piece) {
+        Some(_) => blobs.get(piece.blob as usize),
+        None => None,
     };
-    buffers.append_refusal(k, &around(side, element, k))
+    buffer_refusal(source, buffers, element, k, &BufferCall::Append(bytes))
 }
 
 /// That of reading what is buffered: a buffer is gone where it cannot be removed.
@@ -208,7 +163,7 @@ fn read_refusal<S: FrameStore>(buffers: &SourceBuffers<S>, k: u32) -> Option<Nam
 
 /// That of a seek.
 fn seek_refusal(t: Moment) -> Option<Name>
-    ensures { (v : CoreView) (o : Outer) → result ≡ (seek_effect t v o).answer }
+    ensures { (v : SourceView) (e : ElementState) → result ≡ (seek_effect t v e).answer }
 {
     match t {
         Moment::At(_) => None,
@@ -230,7 +185,7 @@ fn play_refusal(element: &Element) -> Option<Name>
 
 /// That of letting a length of time pass.
 fn advance_refusal(t: Moment) -> Option<Name>
-    ensures { (v : CoreView) (o : Outer) → result ≡ (advance_effect t v o).answer }
+    ensures { (v : SourceView) (e : ElementState) → result ≡ (advance_effect t v e).answer }
 {
     let Moment::At(t) = t else {
         return Some(Name::TypeError);
@@ -246,33 +201,57 @@ fn advance_refusal(t: Moment) -> Option<Name>
 
 /// The name by which a call would be refused before any effect, if it would.
 pub(crate) fn call_refusal<S: FrameStore>(
-    side: &SourceSide,
+    source: &MediaSource,
     buffers: &SourceBuffers<S>,
     element: &Element,
     call: &Call,
     blobs: &Blobs,
 ) -> Option<Name>
-    ensures { (st : State) → Stands (kept_engine side.now buffers.now.buffers element.now.state) st
+    ensures { (st : State) → Stands
+        (kept_engine source.now buffers.now.buffers element.now.state) st
         → result ≡ call_refusal blobs.now call.now st }
 {
     match call {
-        Call::Attach => attach_refusal(side),
-        Call::AddSourceBuffer(text) => add_refusal(side, text.as_str()),
-        Call::RemoveSourceBuffer(k) => removal_refusal(side, buffers, *k),
-        Call::SetDuration(d) => duration_refusal(side, buffers, *d),
-        Call::EndOfStream(_) => end_refusal(side, buffers),
-        Call::SetLiveSeekableRange(start, end) => set_live_refusal(side, *start, *end),
-        Call::ClearLiveSeekableRange => clear_live_refusal(side),
-        Call::SetMode(k, mode) => buffers.mode_refusal(*k, *mode, &around(side, element, *k)),
-        Call::SetTimestampOffset(k, t) => offset_refusal(side, buffers, element, *k, *t),
-        Call::SetAppendWindowStart(k, t) => window_start_refusal(buffers, *k, *t),
-        Call::SetAppendWindowEnd(k, t) => buffers.window_end_refusal(*k, *t),
-        Call::AppendBuffer(k, piece) => append_refusal(side, buffers, element, *k, piece, blobs),
-        Call::Abort(k) => buffers.abort_refusal(*k, &around(side, element, *k)),
-        Call::Remove(k, start, end) => {
-            remove_frames_refusal(side, buffers, element, *k, *start, *end)
+        Call::Attach => attach_refusal(source),
+        Call::AddSourceBuffer(text) => add_refusal(source, text.as_str()),
+        Call::RemoveSourceBuffer(k) => removal_refusal(source, buffers, *k),
+        Call::SetDuration(d) => duration_refusal(source, buffers, *d),
+        Call::EndOfStream(_) => end_refusal(source, buffers),
+        Call::SetLiveSeekableRange(start, end) => set_live_refusal(source, *start, *end),
+        Call::ClearLiveSeekableRange => clear_live_refusal(source),
+        Call::SetMode(k, mode) => {
+            buffer_refusal(source, buffers, element, *k, &BufferCall::SetMode(*mode))
         }
-        Call::ChangeType(k, text) => buffers.change_type_refusal(*k, text.as_str()),
+        Call::SetTimestampOffset(k, t) => {
+            buffer_refusal(source, buffers, element, *k, &BufferCall::SetOffset(*t))
+        }
+        Call::SetAppendWindowStart(k, t) => {
+            buffer_refusal(
+                source,
+                buffers,
+                element,
+                *k,
+                &BufferCall::SetWindowStart(*t),
+            )
+        }
+        Call::SetAppendWindowEnd(k, t) => {
+            buffer_refusal(source, buffers, element, *k, &BufferCall::SetWindowEnd(*t))
+        }
+        Call::AppendBuffer(k, piece) => append_refusal(source, buffers, element, *k, piece, blobs),
+        Call::Abort(k) => { buffer_refusal(source, buffers, element, *k, &BufferCall::Abort) }
+        Call::Remove(k, start, end) => {
+            buffer_refusal(
+                source,
+                buffers,
+                element,
+                *k,
+                &BufferCall::Remove(*start, *end),
+            )
+        }
+        Call::ChangeType(k, text) => {
+            let change = BufferCall::ChangeType(read_type(text.as_str()));
+            buffer_refusal(source, buffers, element, *k, &change)
+        }
         Call::Buffered(k) => read_refusal(buffers, *k),
         Call::Seek(t) => seek_refusal(*t),
         Call::Play => play_refusal(element),

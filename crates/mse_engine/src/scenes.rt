@@ -2,13 +2,12 @@
 
 ghost use Rattle.std.specs.Prelude.{◌≡◌, pos, int_lt, Bool, true, false, IfOk, OnOk};
 ghost use Rattle.mse_calls.specs.Level.{has_metadata};
-ghost use Rattle.media_element.specs.State.{ElementState};
 ghost use Rattle.mse_engine.specs.Scenes.{buffered_in, seekable_in, scene_with, span_at};
 ghost use Rattle.mse_engine.specs.Standing.{HasBounds, bounds_at, view_of};
 ghost use Rattle.source_buffers.specs.State.{all_kept_media};
 ghost use Rattle.source_buffers.specs.Buffered.{element_ranges};
 
-use crate::side::SourceSide;
+use crate::media_source::MediaSource;
 use element_seek::Scene;
 use media_element::Element;
 use mse_base::{Moment, OutOfMemory, Ranges, Span, Ticks};
@@ -65,70 +64,69 @@ pub(crate) fn bounds_of(ranges: &Ranges) -> Bounds
 
 /// The buffered range of the element that has a position or ends at it.
 pub(crate) fn span_at<S: FrameStore>(
-    side: &SourceSide,
+    source: &MediaSource,
     buffers: &SourceBuffers<S>,
     position: Ticks,
 ) -> Option<Span>
-    ensures { (e : ElementState) →
-        result ≡ span_at position (view_of side.now buffers.now.buffers e) }
+    ensures { result ≡ span_at position (view_of source.now buffers.now.buffers) }
 {
-    let ended = side.source.ready().is_ended();
-    buffers.element_span(side.source.active_numbers(), position, ended)
+    let ended = source.state.ready().is_ended();
+    buffers.element_span(source.state.active_numbers(), position, ended)
 }
 
 /// The element's buffered ranges, where the source is ended or not.
 fn buffered_by<S: FrameStore>(
-    side: &SourceSide,
+    source: &MediaSource,
     buffers: &SourceBuffers<S>,
     ended: bool,
 ) -> Result<Ranges, OutOfMemory>
     ensures { IfOk result (λ ranges. ranges.spans
-        ≡ element_ranges ended side.now.state.active (all_kept_media buffers.now.buffers)) }
+        ≡ element_ranges ended source.now.state.active (all_kept_media buffers.now.buffers)) }
 {
-    buffers.element_ranges(side.source.active_numbers(), ended)
+    buffers.element_ranges(source.state.active_numbers(), ended)
 }
 
 /// The element's buffered ranges.
 pub(crate) fn buffered<S: FrameStore>(
-    side: &SourceSide,
+    source: &MediaSource,
     buffers: &SourceBuffers<S>,
 ) -> Result<Ranges, OutOfMemory>
-    ensures { (e : ElementState) → IfOk result (λ ranges. ranges.spans
-        ≡ buffered_in (view_of side.now buffers.now.buffers e)) }
+    ensures { IfOk result (λ ranges. ranges.spans
+        ≡ buffered_in (view_of source.now buffers.now.buffers)) }
 {
-    buffered_by(side, buffers, side.source.ready().is_ended())
+    buffered_by(source, buffers, source.state.ready().is_ended())
 }
 
 /// What can be sought. It builds the ranges only where the duration is infinite, since else they do
 /// not matter.
 pub(crate) fn seekable<S: FrameStore>(
-    side: &SourceSide,
+    source: &MediaSource,
     buffers: &SourceBuffers<S>,
 ) -> Result<Option<Span>, OutOfMemory>
-    ensures { (e : ElementState) → IfOk result (λ span. span
-        ≡ seekable_in (view_of side.now buffers.now.buffers e)) }
+    ensures { IfOk result (λ span. span
+        ≡ seekable_in (view_of source.now buffers.now.buffers)) }
 {
-    if side.source.duration() != Moment::Infinite {
-        return Ok(side.source.seekable(None, None));
+    if source.state.duration() != Moment::Infinite {
+        return Ok(source.state.seekable(None, None));
     }
-    let bounds = bounds_of(&buffered(side, buffers)?);
-    Ok(side.source.seekable(bounds.first, bounds.last))
+    let bounds = bounds_of(&buffered(source, buffers)?);
+    Ok(source.state.seekable(bounds.first, bounds.last))
 }
 
 /// The scene of the element, with what can be sought.
 pub(crate) fn scene<S: FrameStore>(
-    side: &SourceSide,
+    source: &MediaSource,
     buffers: &SourceBuffers<S>,
     element: &Element,
     seekable: Option<Span>,
 ) -> Scene
     ensures { result ≡ scene_with seekable element.now.state.player.position
-        (view_of side.now buffers.now.buffers element.now.state) }
+        (view_of source.now buffers.now.buffers) }
 {
     Scene {
-        duration: side.source.duration(),
-        ended: side.source.ready().is_ended(),
-        span: span_at(side, buffers, element.position()),
+        duration: source.state.duration(),
+        ended: source.state.ready().is_ended(),
+        span: span_at(source, buffers, element.position()),
         seekable,
     }
 }
@@ -136,7 +134,7 @@ pub(crate) fn scene<S: FrameStore>(
 /// Finds the bounds of what is buffered at the element, where it has no metadata: it may get it in
 /// the next step, and then it seeks where its default playback start position is above 0.
 pub(crate) fn find_bounds<S: FrameStore>(
-    side: &SourceSide,
+    source: &MediaSource,
     buffers: &SourceBuffers<S>,
     element: &Element,
     bounds: &mut LoadBounds,
@@ -144,26 +142,26 @@ pub(crate) fn find_bounds<S: FrameStore>(
     ensures { has_metadata element.now.state.player.level ≡ false
         → int_lt (pos 0) element.now.state.player.default_start ≡ true
         → OnOk result ((ended : Bool) → HasBounds (bounds_at bounds.new ended)
-        (element_ranges ended side.now.state.active (all_kept_media buffers.now.buffers))) }
+        (element_ranges ended source.now.state.active (all_kept_media buffers.now.buffers))) }
 {
     if element.level().has_metadata() || element.default_start() <= Ticks::zero() {
         return Ok(());
     }
-    find_all_bounds(side, buffers, bounds)
+    find_all_bounds(source, buffers, bounds)
 }
 
 /// Finds the bounds of what is buffered at the element.
 #[cold]
 #[inline(never)]
 fn find_all_bounds<S: FrameStore>(
-    side: &SourceSide,
+    source: &MediaSource,
     buffers: &SourceBuffers<S>,
     bounds: &mut LoadBounds,
 ) -> Result<(), OutOfMemory>
     ensures { OnOk result ((ended : Bool) → HasBounds (bounds_at bounds.new ended)
-        (element_ranges ended side.now.state.active (all_kept_media buffers.now.buffers))) }
+        (element_ranges ended source.now.state.active (all_kept_media buffers.now.buffers))) }
 {
-    bounds.open = bounds_of(&buffered_by(side, buffers, false)?);
-    bounds.ended = bounds_of(&buffered_by(side, buffers, true)?);
+    bounds.open = bounds_of(&buffered_by(source, buffers, false)?);
+    bounds.ended = bounds_of(&buffered_by(source, buffers, true)?);
     Ok(())
 }

@@ -7,14 +7,15 @@ ghost use Rattle.mse_calls.specs.declared.calls.Call.TheVariants as call;
 ghost use Rattle.mse_types.specs.declared.answer.TypeAnswer.TheVariants.{Supported};
 ghost use Rattle.source_state.specs.declared.answers.Changed.TheVariants.{To};
 ghost use Rattle.media_element.specs.Queueing.{with_events};
+ghost use Rattle.mse_engine.specs.State.{core_of};
 ghost use Rattle.mse_engine.specs.Signals.{DurationChanged, after_signal, after_signals};
 ghost use Rattle.mse_engine.specs.SourceCalls.{add_effect_of, change_signals, inactive_events};
 ghost use Rattle.mse_engine.specs.Calls.{after_call, after_call_by, refused_or, no_element_effect};
 ghost use Rattle.mse_engine.specs.Standing.{IsEngineAnswer, IsSteady, kept_engine, view_of};
 
 use crate::finish::{PLACES, event, settle};
+use crate::media_source::{MediaSource, around};
 use crate::scenes;
-use crate::side::{SourceSide, around};
 use media_element::Element;
 use mse_base::{Moment, OutOfMemory};
 use mse_calls::{Answer, EndKind, EventKind, Name, Target};
@@ -35,53 +36,53 @@ pub(crate) fn answer_by(refusal: Option<Name>) -> Answer
 
 /// Attaches the source to the element.
 pub(crate) fn attach<S: FrameStore>(
-    side: &mut SourceSide,
+    source: &mut MediaSource,
     buffers: &SourceBuffers<S>,
     element: &mut Element,
 ) -> Result<Answer, OutOfMemory>
-    requires steady { IsSteady (kept_engine side.old buffers.now.buffers element.old.state) }
+    requires steady { IsSteady (kept_engine source.old buffers.now.buffers element.old.state) }
     ensures answered { IsEngineAnswer
-        (kept_engine side.old buffers.now.buffers element.old.state) result
-        (kept_engine side.new buffers.now.buffers element.new.state)
+        (kept_engine source.old buffers.now.buffers element.old.state) result
+        (kept_engine source.new buffers.now.buffers element.new.state)
         (after_call [] call.Attach) }
-    ensures steady { IsSteady (kept_engine side.new buffers.now.buffers element.new.state) }
-    ensures err { OnErr result (kept_engine side.new buffers.now.buffers element.new.state
-        ≡ kept_engine side.old buffers.now.buffers element.old.state) }
+    ensures steady { IsSteady (kept_engine source.new buffers.now.buffers element.new.state) }
+    ensures err { OnErr result (kept_engine source.new buffers.now.buffers element.new.state
+        ≡ kept_engine source.old buffers.now.buffers element.old.state) }
 {
     element.reserve(PLACES)?;
-    if let Some(name) = side.source.attach() {
+    if let Some(name) = source.state.attach() {
         return Ok(Answer::Refused(name));
     }
     element.tell(event(Target::Source, EventKind::SourceOpen));
-    settle(side, buffers, element);
+    settle(source, buffers, element);
     Ok(Answer::Done)
 }
 
 /// Adds a source buffer of a container.
 fn add<S: FrameStore>(
-    side: &mut SourceSide,
+    source: &mut MediaSource,
     buffers: &mut SourceBuffers<S>,
     element: &mut Element,
     container: Container,
 ) -> Result<Answer, OutOfMemory>
-    requires steady { IsSteady (kept_engine side.old buffers.old.buffers element.old.state) }
+    requires steady { IsSteady (kept_engine source.old buffers.old.buffers element.old.state) }
     ensures answered { IsEngineAnswer
-        (kept_engine side.old buffers.old.buffers element.old.state) result
-        (kept_engine side.new buffers.new.buffers element.new.state)
-        (λ st. after_call_by (add_effect_of (Supported container) st.core)
-        (no_element_effect st.outer) Done) }
-    ensures steady { IsSteady (kept_engine side.new buffers.new.buffers element.new.state) }
-    ensures err { OnErr result (kept_engine side.new buffers.new.buffers element.new.state
-        ≡ kept_engine side.old buffers.old.buffers element.old.state) }
+        (kept_engine source.old buffers.old.buffers element.old.state) result
+        (kept_engine source.new buffers.new.buffers element.new.state)
+        (λ st. after_call_by (add_effect_of (Supported container) (core_of st))
+        (no_element_effect st.element) Done) }
+    ensures steady { IsSteady (kept_engine source.new buffers.new.buffers element.new.state) }
+    ensures err { OnErr result (kept_engine source.new buffers.new.buffers element.new.state
+        ≡ kept_engine source.old buffers.old.buffers element.old.state) }
 {
     element.reserve(PLACES)?;
     buffers.reserve(1)?;
-    match side.source.add_buffer()? {
+    match source.state.add_buffer()? {
         Added::Refused(name) => Ok(Answer::Refused(name)),
         Added::Number(_) => {
-            buffers.add_reserved(side.gap, container);
+            buffers.add_reserved(source.gap, container);
             element.tell(event(Target::SourceBuffers, EventKind::AddSourceBuffer));
-            settle(side, buffers, element);
+            settle(source, buffers, element);
             Ok(Answer::Done)
         }
     }
@@ -89,24 +90,24 @@ fn add<S: FrameStore>(
 
 /// Adds a source buffer of a type.
 pub(crate) fn add_source_buffer<S: FrameStore>(
-    side: &mut SourceSide,
+    source: &mut MediaSource,
     buffers: &mut SourceBuffers<S>,
     element: &mut Element,
     text: &str,
 ) -> Result<Answer, OutOfMemory>
-    requires steady { IsSteady (kept_engine side.old buffers.old.buffers element.old.state) }
+    requires steady { IsSteady (kept_engine source.old buffers.old.buffers element.old.state) }
     ensures answered { IsEngineAnswer
-        (kept_engine side.old buffers.old.buffers element.old.state) result
-        (kept_engine side.new buffers.new.buffers element.new.state)
+        (kept_engine source.old buffers.old.buffers element.old.state) result
+        (kept_engine source.new buffers.new.buffers element.new.state)
         (after_call [] (call.AddSourceBuffer text.now)) }
-    ensures steady { IsSteady (kept_engine side.new buffers.new.buffers element.new.state) }
-    ensures err { OnErr result (kept_engine side.new buffers.new.buffers element.new.state
-        ≡ kept_engine side.old buffers.old.buffers element.old.state) }
+    ensures steady { IsSteady (kept_engine source.new buffers.new.buffers element.new.state) }
+    ensures err { OnErr result (kept_engine source.new buffers.new.buffers element.new.state
+        ≡ kept_engine source.old buffers.old.buffers element.old.state) }
 {
     match read_type(text) {
         TypeAnswer::Empty => Ok(Answer::Refused(Name::TypeError)),
         TypeAnswer::Unsupported => Ok(Answer::Refused(Name::NotSupported)),
-        TypeAnswer::Supported(container) => add(side, buffers, element, container),
+        TypeAnswer::Supported(container) => add(source, buffers, element, container),
     }
 }
 
@@ -123,33 +124,33 @@ fn tell_inactive(element: &mut Element, active: bool)
 
 /// Removes a source buffer.
 pub(crate) fn remove_source_buffer<S: FrameStore>(
-    side: &mut SourceSide,
+    source: &mut MediaSource,
     buffers: &mut SourceBuffers<S>,
     element: &mut Element,
     k: u32,
 ) -> Result<Answer, OutOfMemory>
-    requires steady { IsSteady (kept_engine side.old buffers.old.buffers element.old.state) }
+    requires steady { IsSteady (kept_engine source.old buffers.old.buffers element.old.state) }
     ensures answered { IsEngineAnswer
-        (kept_engine side.old buffers.old.buffers element.old.state) result
-        (kept_engine side.new buffers.new.buffers element.new.state)
+        (kept_engine source.old buffers.old.buffers element.old.state) result
+        (kept_engine source.new buffers.new.buffers element.new.state)
         (after_call [] (call.RemoveSourceBuffer k)) }
-    ensures steady { IsSteady (kept_engine side.new buffers.new.buffers element.new.state) }
-    ensures err { OnErr result (kept_engine side.new buffers.new.buffers element.new.state
-        ≡ kept_engine side.old buffers.old.buffers element.old.state) }
+    ensures steady { IsSteady (kept_engine source.new buffers.new.buffers element.new.state) }
+    ensures err { OnErr result (kept_engine source.new buffers.new.buffers element.new.state
+        ≡ kept_engine source.old buffers.old.buffers element.old.state) }
 {
     if !buffers.is_made(k) {
         return Ok(Answer::Refused(Name::NoSuchBuffer));
     }
     element.reserve(PLACES)?;
-    let around = around(side, element, k);
-    match side.source.remove_buffer(k) {
+    let around = around(source, element, k);
+    match source.state.remove_buffer(k) {
         Removed::Refused(name) => Ok(Answer::Refused(name)),
         Removed::Gone { active } => {
             let reply = buffers.remove(k, &around);
             element.tell_kinds(Target::Buffer(k), &reply.events);
             tell_inactive(element, active);
             element.tell(event(Target::SourceBuffers, EventKind::RemoveSourceBuffer));
-            settle(side, buffers, element);
+            settle(source, buffers, element);
             Ok(Answer::Done)
         }
     }
@@ -158,114 +159,114 @@ pub(crate) fn remove_source_buffer<S: FrameStore>(
 /// Tells the element that the duration was changed to this one, which it is now. It seeks only where
 /// that is a time, and then what can be sought does not depend on what is buffered.
 fn tell_duration<S: FrameStore>(
-    side: &SourceSide,
+    source: &MediaSource,
     buffers: &SourceBuffers<S>,
     element: &mut Element,
     duration: Moment,
 )
     requires room { 2 ≤ element.old.spare }
-    requires duration_told { side.now.state.duration ≡ duration }
+    requires duration_told { source.now.state.duration ≡ duration }
     ensures state { element.new.state
-        ≡ after_signal (view_of side.now buffers.now.buffers element.old.state)
+        ≡ after_signal (view_of source.now buffers.now.buffers)
         (DurationChanged duration) element.old.state }
     ensures spare { element.old.spare ≤ element.new.spare + 2 }
 {
-    let seekable = side.source.seekable(None, None);
-    let scene = scenes::scene(side, buffers, element, seekable);
+    let seekable = source.state.seekable(None, None);
+    let scene = scenes::scene(source, buffers, element, seekable);
     element.change_duration(duration, &scene);
 }
 
 /// Tells the element what came of the duration.
 fn tell_change<S: FrameStore>(
-    side: &SourceSide,
+    source: &MediaSource,
     buffers: &SourceBuffers<S>,
     element: &mut Element,
     change: Changed,
 )
     requires room { 2 ≤ element.old.spare }
-    requires duration_told { (d : Moment) → change ≡ To d → side.now.state.duration ≡ d }
+    requires duration_told { (d : Moment) → change ≡ To d → source.now.state.duration ≡ d }
     ensures state { element.new.state
-        ≡ after_signals (view_of side.now buffers.now.buffers element.old.state)
+        ≡ after_signals (view_of source.now buffers.now.buffers)
         (change_signals change) element.old.state }
     ensures spare { element.old.spare ≤ element.new.spare + 2 }
 {
     if let Changed::To(duration) = change {
-        tell_duration(side, buffers, element, duration);
+        tell_duration(source, buffers, element, duration);
     }
 }
 
 /// Sets the duration.
 pub(crate) fn set_duration<S: FrameStore>(
-    side: &mut SourceSide,
+    source: &mut MediaSource,
     buffers: &SourceBuffers<S>,
     element: &mut Element,
     duration: Moment,
 ) -> Result<Answer, OutOfMemory>
-    requires steady { IsSteady (kept_engine side.old buffers.now.buffers element.old.state) }
+    requires steady { IsSteady (kept_engine source.old buffers.now.buffers element.old.state) }
     ensures answered { IsEngineAnswer
-        (kept_engine side.old buffers.now.buffers element.old.state) result
-        (kept_engine side.new buffers.now.buffers element.new.state)
+        (kept_engine source.old buffers.now.buffers element.old.state) result
+        (kept_engine source.new buffers.now.buffers element.new.state)
         (after_call [] (call.SetDuration duration)) }
-    ensures steady { IsSteady (kept_engine side.new buffers.now.buffers element.new.state) }
-    ensures err { OnErr result (kept_engine side.new buffers.now.buffers element.new.state
-        ≡ kept_engine side.old buffers.now.buffers element.old.state) }
+    ensures steady { IsSteady (kept_engine source.new buffers.now.buffers element.new.state) }
+    ensures err { OnErr result (kept_engine source.new buffers.now.buffers element.new.state
+        ≡ kept_engine source.old buffers.now.buffers element.old.state) }
 {
     element.reserve(PLACES)?;
     let all = buffers.all_buffers();
-    let change = side.source.set_duration(duration, &all);
+    let change = source.state.set_duration(duration, &all);
     if let Changed::Refused(name) = change {
         return Ok(Answer::Refused(name));
     }
-    tell_change(side, buffers, element, change);
-    settle(side, buffers, element);
+    tell_change(source, buffers, element, change);
+    settle(source, buffers, element);
     Ok(Answer::Done)
 }
 
 /// Ends the stream.
 pub(crate) fn end_of_stream<S: FrameStore>(
-    side: &mut SourceSide,
+    source: &mut MediaSource,
     buffers: &SourceBuffers<S>,
     element: &mut Element,
     kind: EndKind,
 ) -> Result<Answer, OutOfMemory>
-    requires steady { IsSteady (kept_engine side.old buffers.now.buffers element.old.state) }
+    requires steady { IsSteady (kept_engine source.old buffers.now.buffers element.old.state) }
     ensures answered { IsEngineAnswer
-        (kept_engine side.old buffers.now.buffers element.old.state) result
-        (kept_engine side.new buffers.now.buffers element.new.state)
+        (kept_engine source.old buffers.now.buffers element.old.state) result
+        (kept_engine source.new buffers.now.buffers element.new.state)
         (after_call [] (call.EndOfStream kind)) }
-    ensures steady { IsSteady (kept_engine side.new buffers.now.buffers element.new.state) }
-    ensures err { OnErr result (kept_engine side.new buffers.now.buffers element.new.state
-        ≡ kept_engine side.old buffers.now.buffers element.old.state) }
+    ensures steady { IsSteady (kept_engine source.new buffers.now.buffers element.new.state) }
+    ensures err { OnErr result (kept_engine source.new buffers.now.buffers element.new.state
+        ≡ kept_engine source.old buffers.now.buffers element.old.state) }
 {
     element.reserve(PLACES)?;
     let all = buffers.all_buffers();
-    if let Some(name) = side.source.end_refusal(all.updating) {
+    if let Some(name) = source.state.end_refusal(all.updating) {
         return Ok(Answer::Refused(name));
     }
-    let change = side.source.end(kind, all.highest_end);
+    let change = source.state.end(kind, all.highest_end);
     element.tell(event(Target::Source, EventKind::SourceEnded));
-    tell_change(side, buffers, element, change);
+    tell_change(source, buffers, element, change);
     element.fail(kind);
-    settle(side, buffers, element);
+    settle(source, buffers, element);
     Ok(Answer::Done)
 }
 
 /// Sets the live seekable range.
 pub(crate) fn set_live<S: FrameStore>(
-    side: &mut SourceSide,
+    source: &mut MediaSource,
     buffers: &SourceBuffers<S>,
     element: &mut Element,
     start: Moment,
     end: Moment,
 ) -> Result<Answer, OutOfMemory>
-    requires steady { IsSteady (kept_engine side.old buffers.now.buffers element.old.state) }
+    requires steady { IsSteady (kept_engine source.old buffers.now.buffers element.old.state) }
     ensures answered { IsEngineAnswer
-        (kept_engine side.old buffers.now.buffers element.old.state) result
-        (kept_engine side.new buffers.now.buffers element.new.state)
+        (kept_engine source.old buffers.now.buffers element.old.state) result
+        (kept_engine source.new buffers.now.buffers element.new.state)
         (after_call [] (call.SetLiveSeekableRange start end)) }
-    ensures steady { IsSteady (kept_engine side.new buffers.now.buffers element.new.state) }
-    ensures err { OnErr result (kept_engine side.new buffers.now.buffers element.new.state
-        ≡ kept_engine side.old buffers.now.buffers element.old.state) }
+    ensures steady { IsSteady (kept_engine source.new buffers.now.buffers element.new.state) }
+    ensures err { OnErr result (kept_engine source.new buffers.now.buffers element.new.state
+        ≡ kept_engine source.old buffers.now.buffers element.old.state) }
 {
     let Moment::At(start) = start else {
         return Ok(Answer::Refused(Name::TypeError));
@@ -274,28 +275,28 @@ pub(crate) fn set_live<S: FrameStore>(
         return Ok(Answer::Refused(Name::TypeError));
     };
     element.reserve(PLACES)?;
-    let refusal = side.source.set_live(start, end);
-    settle(side, buffers, element);
+    let refusal = source.state.set_live(start, end);
+    settle(source, buffers, element);
     Ok(answer_by(refusal))
 }
 
 /// Clears the live seekable range.
 pub(crate) fn clear_live<S: FrameStore>(
-    side: &mut SourceSide,
+    source: &mut MediaSource,
     buffers: &SourceBuffers<S>,
     element: &mut Element,
 ) -> Result<Answer, OutOfMemory>
-    requires steady { IsSteady (kept_engine side.old buffers.now.buffers element.old.state) }
+    requires steady { IsSteady (kept_engine source.old buffers.now.buffers element.old.state) }
     ensures answered { IsEngineAnswer
-        (kept_engine side.old buffers.now.buffers element.old.state) result
-        (kept_engine side.new buffers.now.buffers element.new.state)
+        (kept_engine source.old buffers.now.buffers element.old.state) result
+        (kept_engine source.new buffers.now.buffers element.new.state)
         (after_call [] call.ClearLiveSeekableRange) }
-    ensures steady { IsSteady (kept_engine side.new buffers.now.buffers element.new.state) }
-    ensures err { OnErr result (kept_engine side.new buffers.now.buffers element.new.state
-        ≡ kept_engine side.old buffers.now.buffers element.old.state) }
+    ensures steady { IsSteady (kept_engine source.new buffers.now.buffers element.new.state) }
+    ensures err { OnErr result (kept_engine source.new buffers.now.buffers element.new.state
+        ≡ kept_engine source.old buffers.now.buffers element.old.state) }
 {
     element.reserve(PLACES)?;
-    let refusal = side.source.clear_live();
-    settle(side, buffers, element);
+    let refusal = source.state.clear_live();
+    settle(source, buffers, element);
     Ok(answer_by(refusal))
 }

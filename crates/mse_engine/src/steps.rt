@@ -8,8 +8,8 @@ ghost use Rattle.mse_engine.specs.Standing.{IsFewerWork, IsSteady, IsWork, Stand
 
 use crate::engine::Worked;
 use crate::finish::{PLACES, finish, settle};
+use crate::media_source::{MediaSource, around};
 use crate::scenes::{self, LoadBounds};
-use crate::side::{SourceSide, around};
 use buffer_state::{Reply, Turned};
 use media_element::Element;
 use mse_base::OutOfMemory;
@@ -18,44 +18,44 @@ use track_store::FrameStore;
 
 /// Makes the bounds those behind a reply that brings metadata, of those before it: a buffer that
 /// becomes active has nothing yet, so that then there are none.
-fn drop_stale_bounds(side: &SourceSide, k: u32, reply: &Reply, bounds: &mut LoadBounds)
+fn drop_stale_bounds(source: &MediaSource, k: u32, reply: &Reply, bounds: &mut LoadBounds)
     ensures { bounds.new ≡ (if reply.now.activated
-        && (is_listed_in k side.now.state.listed || is_listed_in k side.now.state.active)
+        && (is_listed_in k source.now.state.listed || is_listed_in k source.now.state.active)
         then no_bounds else bounds.old) }
 {
-    if reply.activated && (side.source.listed(k) || side.source.active(k)) {
+    if reply.activated && (source.state.listed(k) || source.state.active(k)) {
         *bounds = LoadBounds::NONE;
     }
 }
 
 /// One step of the running work of a buffer.
 pub(crate) fn work_on<S: FrameStore>(
-    side: &mut SourceSide,
+    source: &mut MediaSource,
     buffers: &mut SourceBuffers<S>,
     element: &mut Element,
     k: u32,
 ) -> Result<Worked, OutOfMemory>
-    requires steady { IsSteady (kept_engine side.old buffers.old.buffers element.old.state) }
+    requires steady { IsSteady (kept_engine source.old buffers.old.buffers element.old.state) }
     ensures worked { (st : State) →
-        Stands (kept_engine side.old buffers.old.buffers element.old.state) st
+        Stands (kept_engine source.old buffers.old.buffers element.old.state) st
         → IfOk result (λ worked. IsWork worked
-        (kept_engine side.old buffers.old.buffers element.old.state)
-        (kept_engine side.new buffers.new.buffers element.new.state) (after_work k st)) }
+        (kept_engine source.old buffers.old.buffers element.old.state)
+        (kept_engine source.new buffers.new.buffers element.new.state) (after_work k st)) }
     ensures fewer { IfOk result (λ worked. IsFewerWork worked
-        (kept_engine side.old buffers.old.buffers element.old.state)
-        (kept_engine side.new buffers.new.buffers element.new.state)) }
-    ensures steady { IsSteady (kept_engine side.new buffers.new.buffers element.new.state) }
-    ensures err { OnErr result (kept_engine side.new buffers.new.buffers element.new.state
-        ≡ kept_engine side.old buffers.old.buffers element.old.state) }
+        (kept_engine source.old buffers.old.buffers element.old.state)
+        (kept_engine source.new buffers.new.buffers element.new.state)) }
+    ensures steady { IsSteady (kept_engine source.new buffers.new.buffers element.new.state) }
+    ensures err { OnErr result (kept_engine source.new buffers.new.buffers element.new.state
+        ≡ kept_engine source.old buffers.old.buffers element.old.state) }
 {
     element.reserve(PLACES + 1)?;
-    let around = around(side, element, k);
+    let around = around(source, element, k);
     let mut bounds = LoadBounds::NONE;
-    scenes::find_bounds(side, buffers, element, &mut bounds)?;
+    scenes::find_bounds(source, buffers, element, &mut bounds)?;
     match buffers.turn(k, &around)? {
         Turned::Did(reply) => {
-            drop_stale_bounds(side, k, &reply, &mut bounds);
-            finish(side, buffers, element, k, &reply, &bounds);
+            drop_stale_bounds(source, k, &reply, &mut bounds);
+            finish(source, buffers, element, k, &reply, &bounds);
             Ok(Worked::Did)
         }
         Turned::Idle => Ok(Worked::Idle),
@@ -64,25 +64,25 @@ pub(crate) fn work_on<S: FrameStore>(
 
 /// What the element does by itself.
 pub(crate) fn turn_by_itself<S: FrameStore>(
-    side: &SourceSide,
+    source: &MediaSource,
     buffers: &SourceBuffers<S>,
     element: &mut Element,
 ) -> Result<Worked, OutOfMemory>
-    requires steady { IsSteady (kept_engine side.now buffers.now.buffers element.old.state) }
+    requires steady { IsSteady (kept_engine source.now buffers.now.buffers element.old.state) }
     ensures worked { (st : State) →
-        Stands (kept_engine side.now buffers.now.buffers element.old.state) st
+        Stands (kept_engine source.now buffers.now.buffers element.old.state) st
         → IfOk result (λ worked. IsWork worked
-        (kept_engine side.now buffers.now.buffers element.old.state)
-        (kept_engine side.now buffers.now.buffers element.new.state) (after_element_turn st)) }
-    ensures steady { IsSteady (kept_engine side.now buffers.now.buffers element.new.state) }
-    ensures err { OnErr result (kept_engine side.now buffers.now.buffers element.new.state
-        ≡ kept_engine side.now buffers.now.buffers element.old.state) }
+        (kept_engine source.now buffers.now.buffers element.old.state)
+        (kept_engine source.now buffers.now.buffers element.new.state) (after_element_turn st)) }
+    ensures steady { IsSteady (kept_engine source.now buffers.now.buffers element.new.state) }
+    ensures err { OnErr result (kept_engine source.now buffers.now.buffers element.new.state
+        ≡ kept_engine source.now buffers.now.buffers element.old.state) }
 {
     element.reserve(PLACES)?;
-    let scene = scenes::scene(side, buffers, element, None);
+    let scene = scenes::scene(source, buffers, element, None);
     if !element.turn(&scene) {
         return Ok(Worked::Idle);
     }
-    settle(side, buffers, element);
+    settle(source, buffers, element);
     Ok(Worked::Did)
 }

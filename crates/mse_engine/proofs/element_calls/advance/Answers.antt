@@ -5,11 +5,11 @@ use Rattle.mse_calls.specs.declared.calls.Call.TheVariants as call
 use Rattle.element_seek.specs.declared.scene.Scene.{Scene}
 use Rattle.element_seek.specs.Playing.{after_advance}
 use Rattle.media_element.specs.Queueing.{refusal, change_by_call, after_player_call}
-use Rattle.mse_engine.specs.Scenes.{core_view, scene_with, seekable_in}
+use Rattle.mse_engine.specs.Scenes.{core_view, seekable_in}
+use Rattle.mse_engine.specs.State.{core_of}
 use Rattle.mse_engine.specs.Calls.{advance_effect}
 use Rattle.mse_engine.specs.Calls as calls
 use Rattle.mse_engine.specs.Standing.{IsStep, kept_engine, view_of}
-use Rattle.mse_engine.proofs.Unchanged.{in_advance}
 use Rattle.mse_engine.proofs.ElementEffects.{scene_step, refusal_is, element_effect_steady, steady_still, advance_refused, element_effect_name_step}
 use Rattle.mse_engine.proofs.element_calls.advance.Goals as goal
 
@@ -17,16 +17,16 @@ pub returns-clause-answered : goal.returns-clause-answered
 returns-clause-answered g c st h =
     let told = c.advance-refusal.ensures.state ∙ ap (λ (s : Scene). after_player_call (after_advance c.in-At.t s) c.reserve.new.self.state) c.scene-scene.ensures in
     let name = c.advance-refusal.ensures.name ∙ ap (λ (s : Scene). refusal (after_advance c.in-At.t s c.reserve.new.self.state.player).answer) c.scene-scene.ensures in
-    subst (λ (t : Moment). IsStep c.answer_by.result (kept_engine c.args.side.now c.args.buffers.now.buffers c.settle.new.element.state) (calls.after_call [] (call.Advance t) st)) (sym c.in-At.is) (record {
-      answers = refusal_is c.args.side.now c.args.buffers.now.buffers c.args.element.now.state c.reserve.new.self.state c.reserve.ensures.state (after_advance c.in-At.t) c.advance-refusal.result c.answer_by.result (seekable_in (view_of c.args.side.now c.args.buffers.now.buffers c.reserve.new.self.state)) st c.answer_by.ensures name refl h;
-      stands = scene_step c.args.side.now c.args.buffers.now.buffers c.args.element.now.state c.reserve.new.self.state c.reserve.ensures.state (λ scene p. change_by_call (after_advance c.in-At.t scene) p) c.advance-refusal.new.self.state c.settle.new.element.state (seekable_in (view_of c.args.side.now c.args.buffers.now.buffers c.reserve.new.self.state)) st told refl (in_advance c.in-At.t (scene_with (seekable_in (view_of c.args.side.now c.args.buffers.now.buffers c.reserve.new.self.state)) c.reserve.new.self.state.player.position (view_of c.args.side.now c.args.buffers.now.buffers c.reserve.new.self.state)) c.reserve.new.self.state.player) (record { source = c.settle.ensures.source; element = c.settle.ensures.element }) h;
+    subst (λ (t : Moment). IsStep c.answer_by.result (kept_engine c.args.source.now c.args.buffers.now.buffers c.settle.new.element.state) (calls.after_call [] (call.Advance t) st)) (sym c.in-At.is) (record {
+      answers = refusal_is c.args.source.now c.args.buffers.now.buffers c.args.element.now.state c.reserve.new.self.state c.reserve.ensures.state (after_advance c.in-At.t) c.advance-refusal.result c.answer_by.result (seekable_in (view_of c.args.source.now c.args.buffers.now.buffers)) st c.answer_by.ensures name refl h;
+      stands = scene_step c.args.source.now c.args.buffers.now.buffers c.args.element.now.state c.reserve.new.self.state c.reserve.ensures.state (λ scene p. change_by_call (after_advance c.in-At.t scene) p) c.advance-refusal.new.self.state c.settle.new.element.state (seekable_in (view_of c.args.source.now c.args.buffers.now.buffers)) st told refl c.settle.ensures.element h;
     })
 
 pub returns-clause-steady : goal.returns-clause-steady
-returns-clause-steady g c = element_effect_steady c.args.side.now c.args.buffers.now.buffers c.args.element.now.state c.reserve.new.self.state c.reserve.ensures.state c.settle.new.element.state c.requires.steady c.settle.ensures.settled
+returns-clause-steady g c = element_effect_steady c.args.source.now c.args.buffers.now.buffers c.args.element.now.state c.reserve.new.self.state c.reserve.ensures.state c.settle.new.element.state c.requires.steady c.settle.ensures.settled
 
 pub returns-in_err-reserve-clause-steady : goal.returns-in_err-reserve-clause-steady
-returns-in_err-reserve-clause-steady g c = steady_still c.args.side.now c.args.buffers.now.buffers c.args.element.now.state c.reserve.new.self.state c.reserve.ensures.state c.requires.steady
+returns-in_err-reserve-clause-steady g c = steady_still c.args.source.now c.args.buffers.now.buffers c.args.element.now.state c.reserve.new.self.state c.reserve.ensures.state c.requires.steady
 
 pub returns-in_default-clause-answered : goal.returns-in_default-clause-answered
-returns-in_default-clause-answered g c st h = element_effect_name_step (kept_engine c.args.side.now c.args.buffers.now.buffers c.args.element.now.state) st TypeError (advance_effect c.args.t (core_view st.core) st.outer) (advance_refused c.args.t (core_view st.core) st.outer c.in_default.not-At) c.requires.steady.settled h
+returns-in_default-clause-answered g c st h = element_effect_name_step (kept_engine c.args.source.now c.args.buffers.now.buffers c.args.element.now.state) st TypeError (advance_effect c.args.t (core_view (core_of st)) st.element) (advance_refused c.args.t (core_view (core_of st)) st.element c.in_default.not-At) c.requires.steady.settled h

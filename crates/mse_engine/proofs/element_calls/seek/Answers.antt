@@ -6,29 +6,29 @@ use Rattle.mse_calls.specs.declared.calls.Call.TheVariants as call
 use Rattle.element_seek.specs.declared.scene.Scene.{Scene}
 use Rattle.element_seek.specs.Seeking.{after_seek}
 use Rattle.media_element.specs.Queueing.{after_action}
-use Rattle.mse_engine.specs.Scenes.{core_view, scene_with}
+use Rattle.mse_engine.specs.Scenes.{core_view}
+use Rattle.mse_engine.specs.State.{core_of}
 use Rattle.mse_engine.specs.Calls.{seek_effect, after_call}
-use Rattle.mse_engine.specs.Standing.{IsStep, kept_engine, view_of}
-use Rattle.mse_engine.proofs.Unchanged.{in_seek}
+use Rattle.mse_engine.specs.Standing.{IsStep, kept_engine}
 use Rattle.mse_engine.proofs.ElementEffects.{scene_step, element_effect_steady, steady_still, seek_refused, element_effect_name_step}
 use Rattle.mse_engine.proofs.element_calls.seek.Goals as goal
 
 pub returns-clause-answered : goal.returns-clause-answered
 returns-clause-answered g c st h =
     let told = c.seek.ensures.state ∙ ap (λ (s : Scene). after_action (after_seek c.in-At.t s) c.reserve.new.self.state) c.scene-scene.ensures in
-    subst (λ (t : Moment). IsStep Done (kept_engine c.args.side.now c.args.buffers.now.buffers c.settle.new.element.state) (after_call [] (call.Seek t) st)) (sym c.in-At.is) (record {
+    subst (λ (t : Moment). IsStep Done (kept_engine c.args.source.now c.args.buffers.now.buffers c.settle.new.element.state) (after_call [] (call.Seek t) st)) (sym c.in-At.is) (record {
       answers = refl;
-      stands = scene_step c.args.side.now c.args.buffers.now.buffers c.args.element.now.state c.reserve.new.self.state c.reserve.ensures.state (after_seek c.in-At.t) c.seek.new.self.state c.settle.new.element.state c.in_ok-seekable.seekable st told (c.in_ok-seekable.ensures c.reserve.new.self.state) (in_seek c.in-At.t (scene_with c.in_ok-seekable.seekable c.reserve.new.self.state.player.position (view_of c.args.side.now c.args.buffers.now.buffers c.reserve.new.self.state)) c.reserve.new.self.state.player) (record { source = c.settle.ensures.source; element = c.settle.ensures.element }) h;
+      stands = scene_step c.args.source.now c.args.buffers.now.buffers c.args.element.now.state c.reserve.new.self.state c.reserve.ensures.state (after_seek c.in-At.t) c.seek.new.self.state c.settle.new.element.state c.in_ok-seekable.seekable st told c.in_ok-seekable.ensures c.settle.ensures.element h;
     })
 
 pub returns-clause-steady : goal.returns-clause-steady
-returns-clause-steady g c = element_effect_steady c.args.side.now c.args.buffers.now.buffers c.args.element.now.state c.reserve.new.self.state c.reserve.ensures.state c.settle.new.element.state c.requires.steady c.settle.ensures.settled
+returns-clause-steady g c = element_effect_steady c.args.source.now c.args.buffers.now.buffers c.args.element.now.state c.reserve.new.self.state c.reserve.ensures.state c.settle.new.element.state c.requires.steady c.settle.ensures.settled
 
 pub returns-in_err-reserve-clause-steady : goal.returns-in_err-reserve-clause-steady
-returns-in_err-reserve-clause-steady g c = steady_still c.args.side.now c.args.buffers.now.buffers c.args.element.now.state c.reserve.new.self.state c.reserve.ensures.state c.requires.steady
+returns-in_err-reserve-clause-steady g c = steady_still c.args.source.now c.args.buffers.now.buffers c.args.element.now.state c.reserve.new.self.state c.reserve.ensures.state c.requires.steady
 
 pub returns-in_err-seekable-clause-steady : goal.returns-in_err-seekable-clause-steady
-returns-in_err-seekable-clause-steady g c = steady_still c.args.side.now c.args.buffers.now.buffers c.args.element.now.state c.reserve.new.self.state c.reserve.ensures.state c.requires.steady
+returns-in_err-seekable-clause-steady g c = steady_still c.args.source.now c.args.buffers.now.buffers c.args.element.now.state c.reserve.new.self.state c.reserve.ensures.state c.requires.steady
 
 pub returns-in_default-clause-answered : goal.returns-in_default-clause-answered
-returns-in_default-clause-answered g c st h = element_effect_name_step (kept_engine c.args.side.now c.args.buffers.now.buffers c.args.element.now.state) st TypeError (seek_effect c.args.t (core_view st.core) st.outer) (seek_refused c.args.t (core_view st.core) st.outer c.in_default.not-At) c.requires.steady.settled h
+returns-in_default-clause-answered g c st h = element_effect_name_step (kept_engine c.args.source.now c.args.buffers.now.buffers c.args.element.now.state) st TypeError (seek_effect c.args.t (core_view (core_of st)) st.element) (seek_refused c.args.t (core_view (core_of st)) st.element c.in_default.not-At) c.requires.steady.settled h

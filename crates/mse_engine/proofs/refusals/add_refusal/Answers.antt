@@ -4,7 +4,7 @@ use Rattle.mse_calls.specs.declared.answers.Name.TheVariants.{NotSupported, Type
 use Rattle.mse_types.specs.declared.answer.TypeAnswer.TheVariants.{Supported, Empty, Unsupported}
 use Rattle.source_state.specs.Calls.{add_name, after_add_buffer}
 use Rattle.mse_engine.proofs.Inside.{new_answer}
-use Rattle.mse_engine.proofs.Refusing.{supported_name, type_name}
+use Rattle.mse_engine.proofs.AskedRefusals.{supported_name, type_name}
 use Rattle.mse_engine.proofs.refusals.add_refusal.Goals as goal
 
 pub returns-in-Empty : goal.returns-in-Empty
@@ -15,5 +15,5 @@ returns-in-Unsupported c core same = type_name c.args.text.now Unsupported core 
 
 pub returns-in-Supported : goal.returns-in-Supported
 returns-in-Supported c core same =
-    let told = new_answer c.side.inside.source c.side.inside.fault c.side.inside.quota c.side.inside.gap c.args.side.now c.side.view_is (λ s. add_name (after_add_buffer s).answer) c.add_refusal.result c.add_refusal.ensures in
-    type_name c.args.text.now (Supported c.in-Supported.field-0) core c.add_refusal.result (sym c.read_type.ensures.value ∙ c.in-Supported.is) (supported_name c.in-Supported.field-0 c.args.side.now.state core c.add_refusal.result same told)
+    let told = new_answer c.source.inside.state c.source.inside.fault c.source.inside.quota c.source.inside.gap c.args.source.now c.source.view_is (λ s. add_name (after_add_buffer s).answer) c.add_refusal.result c.add_refusal.ensures in
+    type_name c.args.text.now (Supported c.in-Supported.field-0) core c.add_refusal.result (sym c.read_type.ensures.value ∙ c.in-Supported.is) (supported_name c.in-Supported.field-0 c.args.source.now.state core c.add_refusal.result same told)

@@ -1,7 +1,7 @@
 use Rattle.std.proofs.Common.{◌≡◌, true, false, length, nat_lt}
 use Rattle.std.specs.Prelude.{is_some}
 use Rattle.source_buffers.specs.Slots.{refusal_on_slot, removal_refusal_in_slot}
-use Rattle.mse_engine.proofs.Refusing.{read_name, read_unmade}
+use Rattle.mse_engine.proofs.AskedRefusals.{read_name, read_unmade}
 use Rattle.mse_engine.proofs.refusals.read_refusal.Goals as goal
 
 pub returns-then-not-is_made : goal.returns-then-not-is_made

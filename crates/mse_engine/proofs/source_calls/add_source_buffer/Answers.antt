@@ -3,17 +3,18 @@ use Rattle.std.specs.Prelude.{IfOk}
 use Rattle.mse_types.specs.declared.answer.TypeAnswer.{TypeAnswer}
 use Rattle.mse_calls.specs.declared.answers.Answer.TheVariants.{Done, Refused}
 use Rattle.mse_calls.specs.declared.answers.Name.TheVariants.{NotSupported, TypeError}
+use Rattle.mse_engine.specs.State.{core_of}
 use Rattle.mse_engine.specs.SourceCalls.{add_effect_of}
 use Rattle.mse_engine.specs.Calls.{after_call_by, no_element_effect}
 use Rattle.mse_engine.specs.Standing.{IsStep, kept_engine}
-use Rattle.mse_engine.proofs.BufferStepping.{refused_stays}
+use Rattle.mse_engine.proofs.BufferCallSteps.{refused_stays}
 use Rattle.mse_engine.proofs.source_calls.add_source_buffer.Goals as goal
 
 pub returns-in-Empty-clause-answered : goal.returns-in-Empty-clause-answered
-returns-in-Empty-clause-answered g c st h = subst (λ (t : TypeAnswer). IsStep (Refused TypeError) (kept_engine c.args.side.now c.args.buffers.now.buffers c.args.element.now.state) (after_call_by (add_effect_of t st.core) (no_element_effect st.outer) Done)) c.in-Empty.ensures.value (refused_stays TypeError Done (kept_engine c.args.side.now c.args.buffers.now.buffers c.args.element.now.state) st c.requires.steady.settled h)
+returns-in-Empty-clause-answered g c st h = subst (λ (t : TypeAnswer). IsStep (Refused TypeError) (kept_engine c.args.source.now c.args.buffers.now.buffers c.args.element.now.state) (after_call_by (add_effect_of t (core_of st)) (no_element_effect st.element) Done)) c.in-Empty.ensures.value (refused_stays TypeError Done (kept_engine c.args.source.now c.args.buffers.now.buffers c.args.element.now.state) st c.requires.steady.settled h)
 
 pub returns-in-Unsupported-clause-answered : goal.returns-in-Unsupported-clause-answered
-returns-in-Unsupported-clause-answered g c st h = subst (λ (t : TypeAnswer). IsStep (Refused NotSupported) (kept_engine c.args.side.now c.args.buffers.now.buffers c.args.element.now.state) (after_call_by (add_effect_of t st.core) (no_element_effect st.outer) Done)) c.in-Unsupported.ensures.value (refused_stays NotSupported Done (kept_engine c.args.side.now c.args.buffers.now.buffers c.args.element.now.state) st c.requires.steady.settled h)
+returns-in-Unsupported-clause-answered g c st h = subst (λ (t : TypeAnswer). IsStep (Refused NotSupported) (kept_engine c.args.source.now c.args.buffers.now.buffers c.args.element.now.state) (after_call_by (add_effect_of t (core_of st)) (no_element_effect st.element) Done)) c.in-Unsupported.ensures.value (refused_stays NotSupported Done (kept_engine c.args.source.now c.args.buffers.now.buffers c.args.element.now.state) st c.requires.steady.settled h)
 
 pub returns-in-Supported-clause-answered : goal.returns-in-Supported-clause-answered
-returns-in-Supported-clause-answered g c st h = subst (λ (t : TypeAnswer). IfOk c.add.result (λ answer. IsStep answer (kept_engine c.add.new.side c.add.new.buffers.buffers c.add.new.element.state) (after_call_by (add_effect_of t st.core) (no_element_effect st.outer) Done))) c.in-Supported.ensures.value (c.add.ensures.answered st h)
+returns-in-Supported-clause-answered g c st h = subst (λ (t : TypeAnswer). IfOk c.add.result (λ answer. IsStep answer (kept_engine c.add.new.source c.add.new.buffers.buffers c.add.new.element.state) (after_call_by (add_effect_of t (core_of st)) (no_element_effect st.element) Done))) c.in-Supported.ensures.value (c.add.ensures.answered st h)

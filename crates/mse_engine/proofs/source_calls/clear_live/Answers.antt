@@ -2,22 +2,23 @@ use Rattle.std.proofs.Common.{[], sym, subst}
 use Rattle.mse_calls.specs.declared.answers.Answer.{Answer}
 use Rattle.mse_calls.specs.declared.answers.Answer.TheVariants.{Done}
 use Rattle.source_state.specs.Calls.{after_clear_live}
+use Rattle.mse_engine.specs.State.{core_of}
 use Rattle.mse_engine.specs.SourceCalls.{from_source}
 use Rattle.mse_engine.specs.Calls.{after_call_by, no_element_effect}
 use Rattle.mse_engine.specs.Standing.{IsStep, kept_engine}
-use Rattle.mse_engine.proofs.Sourcing.{clear_live_plain, plain_steady, either_step}
+use Rattle.mse_engine.proofs.SourceSteps.{clear_live_plain, plain_steady, either_step}
 use Rattle.mse_engine.proofs.ElementEffects.{steady_still}
-use Rattle.mse_engine.proofs.Inside.{side_of, new_state, new_answer}
+use Rattle.mse_engine.proofs.Inside.{source_with, new_state, new_answer}
 use Rattle.mse_engine.proofs.source_calls.clear_live.Goals as goal
 
 pub returns-clause-answered : goal.returns-clause-answered
 returns-clause-answered g c st h =
-    let answer = new_answer c.side.inside.source c.side.inside.fault c.side.inside.quota c.side.inside.gap c.args.side.now c.side.view_is (λ s. (after_clear_live s).answer) c.clear_live-refusal.result c.clear_live-refusal.ensures.answer in
-    let here = either_step after_clear_live c.args.side.now (side_of c.clear_live-refusal.new.self c.side.inside.fault c.side.inside.quota c.side.inside.gap) c.args.buffers.now.buffers c.args.element.now.state c.reserve.new.self.state (clear_live_plain c.args.side.now.state) (new_state c.side.inside.source c.side.inside.fault c.side.inside.quota c.side.inside.gap c.args.side.now c.side.view_is (λ s. (after_clear_live s).state) c.clear_live-refusal.new.self c.clear_live-refusal.ensures.state) c.reserve.ensures.state c.clear_live-refusal.result c.settle.new.element.state st answer (record { source = c.settle.ensures.source; element = c.settle.ensures.element }) h in
-    subst (λ (a : Answer). IsStep a (kept_engine (side_of c.clear_live-refusal.new.self c.side.inside.fault c.side.inside.quota c.side.inside.gap) c.args.buffers.now.buffers c.settle.new.element.state) (after_call_by (from_source (after_clear_live st.core.source.state) [] st.core) (no_element_effect st.outer) Done)) (sym c.answer_by.ensures) here
+    let answer = new_answer c.source.inside.state c.source.inside.fault c.source.inside.quota c.source.inside.gap c.args.source.now c.source.view_is (λ s. (after_clear_live s).answer) c.clear_live-refusal.result c.clear_live-refusal.ensures.answer in
+    let here = either_step after_clear_live c.args.source.now (source_with c.clear_live-refusal.new.self c.source.inside.fault c.source.inside.quota c.source.inside.gap) c.args.buffers.now.buffers c.args.element.now.state c.reserve.new.self.state (clear_live_plain c.args.source.now.state) (new_state c.source.inside.state c.source.inside.fault c.source.inside.quota c.source.inside.gap c.args.source.now c.source.view_is (λ s. (after_clear_live s).state) c.clear_live-refusal.new.self c.clear_live-refusal.ensures.state) c.reserve.ensures.state c.clear_live-refusal.result c.settle.new.element.state st answer c.settle.ensures.element h in
+    subst (λ (a : Answer). IsStep a (kept_engine (source_with c.clear_live-refusal.new.self c.source.inside.fault c.source.inside.quota c.source.inside.gap) c.args.buffers.now.buffers c.settle.new.element.state) (after_call_by (from_source (after_clear_live st.source.state) [] (core_of st)) (no_element_effect st.element) Done)) (sym c.answer_by.ensures) here
 
 pub returns-clause-steady : goal.returns-clause-steady
-returns-clause-steady g c = plain_steady after_clear_live c.args.side.now (side_of c.clear_live-refusal.new.self c.side.inside.fault c.side.inside.quota c.side.inside.gap) c.args.buffers.now.buffers c.args.element.now.state c.reserve.new.self.state (clear_live_plain c.args.side.now.state) (new_state c.side.inside.source c.side.inside.fault c.side.inside.quota c.side.inside.gap c.args.side.now c.side.view_is (λ s. (after_clear_live s).state) c.clear_live-refusal.new.self c.clear_live-refusal.ensures.state) c.reserve.ensures.state c.settle.new.element.state c.requires.steady c.settle.ensures.settled
+returns-clause-steady g c = plain_steady after_clear_live c.args.source.now (source_with c.clear_live-refusal.new.self c.source.inside.fault c.source.inside.quota c.source.inside.gap) c.args.buffers.now.buffers c.args.element.now.state c.reserve.new.self.state (clear_live_plain c.args.source.now.state) (new_state c.source.inside.state c.source.inside.fault c.source.inside.quota c.source.inside.gap c.args.source.now c.source.view_is (λ s. (after_clear_live s).state) c.clear_live-refusal.new.self c.clear_live-refusal.ensures.state) c.reserve.ensures.state c.settle.new.element.state c.requires.steady c.settle.ensures.settled
 
 pub returns-in_err-reserve-clause-steady : goal.returns-in_err-reserve-clause-steady
-returns-in_err-reserve-clause-steady g c = steady_still c.args.side.now c.args.buffers.now.buffers c.args.element.now.state c.reserve.new.self.state c.reserve.ensures.state c.requires.steady
+returns-in_err-reserve-clause-steady g c = steady_still c.args.source.now c.args.buffers.now.buffers c.args.element.now.state c.reserve.new.self.state c.reserve.ensures.state c.requires.steady

@@ -1,36 +1,30 @@
-use Rattle.std.proofs.Common.{refl, subst}
-use Rattle.mse_calls.specs.declared.answers.Answer.TheVariants.{Done}
+use Rattle.std.proofs.Common.{subst}
 use Rattle.buffer_state.specs.declared.reply.Turned.{Turned}
 use Rattle.buffer_state.specs.Replies.{IfDid}
 use Rattle.buffer_state.specs.State.{surroundings}
 use Rattle.source_buffers.specs.All.{AreStillWithin}
 use Rattle.source_buffers.specs.Buffered.{AreRangesAfterInit}
 use Rattle.source_buffers.specs.Slots.{IsBuffersTurn, buffers_turn}
-use Rattle.mse_engine.specs.Calls.{refused_or}
-use Rattle.mse_engine.specs.Standing.{kept_engine}
 use Rattle.mse_engine.proofs.ElementEffects.{steady_still}
-use Rattle.mse_engine.proofs.Bringing.{brought}
-use Rattle.mse_engine.proofs.BufferStepping.{call_steady}
-use Rattle.mse_engine.proofs.Finishing.{concluded}
-use Rattle.mse_engine.proofs.Working.{work_did}
+use Rattle.mse_engine.proofs.MetadataRanges.{brought}
+use Rattle.mse_engine.proofs.BufferCallSteps.{call_steady}
+use Rattle.mse_engine.proofs.WorkSteps.{work_did}
 use Rattle.mse_engine.proofs.steps.work_on.Goals as goal
 
 pub finish-requires-clause-ready_to_load : goal.finish-requires-clause-ready_to_load
 finish-requires-clause-ready_to_load g c loaded =
-    let leaves = subst (λ (x : Turned). IfDid x (λ reply. AreRangesAfterInit c.args.k c.args.buffers.now.buffers reply c.turn.new.self.buffers)) c.in-Did.is c.in_ok-reply.ensures.ranges in
-    brought c.args.k c.in-Did.reply c.args.buffers.now.buffers c.turn.new.self.buffers c.args.side.now c.reserve.new.self.state c.find_bounds.new.bounds c.drop_stale_bounds.new.bounds leaves c.drop_stale_bounds.ensures c.in_ok-find_bounds.ensures loaded
+    let leaves = subst (λ (x : Turned). IfDid x (λ reply. AreRangesAfterInit c.args.k c.args.buffers.now.buffers reply c.turn.new.self.buffers)) c.in-Did.is c.in_ok-reply.ensures.done.ranges in
+    brought c.args.k c.in-Did.reply c.args.buffers.now.buffers c.turn.new.self.buffers c.args.source.now c.reserve.new.self.state c.find_bounds.new.bounds c.drop_stale_bounds.new.bounds leaves c.drop_stale_bounds.ensures c.in_ok-find_bounds.ensures loaded
 
 pub returns-in-Did-clause-worked : goal.returns-in-Did-clause-worked
 returns-in-Did-clause-worked g c st h =
-    let turned = subst (λ (x : Turned). IsBuffersTurn x c.turn.new.self.buffers (buffers_turn c.args.k (surroundings c.around-around.result) st.core.buffers)) c.in-Did.is (c.in_ok-reply.ensures.turned st.core.buffers h.buffers) in
-    let done = refused_or c.in-Did.reply.refused Done in
-    let concludes = concluded c.args.k c.in-Did.reply done c.args.side.now c.finish.new.side c.turn.new.self.buffers c.reserve.new.self.state c.finish.new.element.state refl c.finish.ensures.source c.finish.ensures.outer in
-    work_did c.args.k (surroundings c.around-around.result) c.in-Did.reply done c.args.side.now c.args.element.now.state c.reserve.new.self.state c.args.buffers.now.buffers c.turn.new.self.buffers (kept_engine c.finish.new.side c.turn.new.self.buffers c.finish.new.element.state) st c.reserve.ensures.state c.around-around.ensures.surroundings turned concludes h
+    let turned = subst (λ (x : Turned). IsBuffersTurn x c.turn.new.self.buffers (buffers_turn c.args.k (surroundings c.around-around.result) st.buffers)) c.in-Did.is (c.in_ok-reply.ensures.done.turned_as st.buffers h.buffers) in
+    work_did c.args.k (surroundings c.around-around.result) c.in-Did.reply c.args.source.now c.finish.new.source c.args.element.now.state c.reserve.new.self.state c.finish.new.element.state c.args.buffers.now.buffers c.turn.new.self.buffers st c.reserve.ensures.state c.around-around.ensures.surroundings turned c.finish.ensures.source c.finish.ensures.end.element h
 
 pub returns-in-Did-clause-steady : goal.returns-in-Did-clause-steady
 returns-in-Did-clause-steady g c =
-    let stays = subst (λ (x : Turned). IfDid x (λ reply. AreStillWithin c.around-around.result.duration c.args.buffers.now.buffers reply c.turn.new.self.buffers)) c.in-Did.is c.in_ok-reply.ensures.within_duration in
-    call_steady c.args.k c.in-Did.reply c.around-around.result.duration c.args.side.now c.finish.new.side c.args.buffers.now.buffers c.turn.new.self.buffers c.args.element.now.state c.finish.new.element.state c.requires.steady c.around-around.ensures.duration stays c.turn.ensures.len c.finish.ensures.side c.finish.ensures.settled
+    let stays = subst (λ (x : Turned). IfDid x (λ reply. AreStillWithin c.around-around.result.duration c.args.buffers.now.buffers reply c.turn.new.self.buffers)) c.in-Did.is c.in_ok-reply.ensures.done.within_duration in
+    call_steady c.args.k c.in-Did.reply c.around-around.result.duration c.args.source.now c.finish.new.source c.args.buffers.now.buffers c.turn.new.self.buffers c.args.element.now.state c.finish.new.element.state c.requires.steady c.around-around.ensures.duration stays c.turn.ensures.len c.finish.ensures.source c.finish.ensures.end.settled
 
 pub returns-in_err-reserve-clause-steady : goal.returns-in_err-reserve-clause-steady
-returns-in_err-reserve-clause-steady g c = steady_still c.args.side.now c.args.buffers.now.buffers c.args.element.now.state c.reserve.new.self.state c.reserve.ensures.state c.requires.steady
+returns-in_err-reserve-clause-steady g c = steady_still c.args.source.now c.args.buffers.now.buffers c.args.element.now.state c.reserve.new.self.state c.reserve.ensures.state c.requires.steady
