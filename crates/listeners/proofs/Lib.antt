@@ -1,8 +1,9 @@
 mod EventNumbers
-mod Hearing
-mod Calling
-mod Indexing
-mod Noting
-mod Holding
-mod Serving
-mod Dispatching
+mod HeardEvents
+mod CallsLeft
+mod RuleIndex
+mod NoteLists
+mod RuleListeners
+mod ListenerTurns
+mod EventDispatch
+pub mod ListenerWays

@@ -62,13 +62,18 @@ pub record IsUnheard (count : ℕ) (before now : List Note) : Type 0 where
   pub no_call : count ≡ 0
   pub notes : now ≡ before
 
+-- it may make one call more: it made fewer than 1000 for the event, and calls are left
+abbrev pub IsWithinLimits : TurnEnd → Type 0
+IsWithinLimits end = (own_count end < 1000) × (0 < end.left)
+
 -- Memory may run out before it hears the event, before it is asked for a call, after a call is made,
--- or before one is.
+-- or before one is made that it may make.
 abbrev pub IsOutOfMemory : Event → TurnEnd → Type 0
 IsOutOfMemory event end =
     IsUnheard (own_count end) end.before end.now
     ⊎ (end.now ≡ end.before ++ Heard event ∷ own_notes end)
-    ⊎ IsAnswerUntold event end ⊎ IsCallUnmade event end
+    ⊎ IsAnswerUntold event end
+    ⊎ (IsWithinLimits end × IsCallUnmade event end)
 
 -- the fault with which its turn ends
 abbrev pub IsFault : DispatchFault → Event → TurnEnd → Type 0

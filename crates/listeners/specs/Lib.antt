@@ -1,4 +1,5 @@
 pub mod Notes
+pub mod Ways
 pub mod Events
 pub mod RuleCalls
 pub mod ListenerView

@@ -3,6 +3,7 @@ ghost use Rattle.std.specs.Option.{option_copied};
 ghost use Rattle.listeners.specs.declared.listener.Note.{Note};
 ghost use Rattle.listeners.specs.Notes.{told_note, asked_note};
 ghost use Rattle.listeners.specs.Dispatch.{IsCallTurn, IsDispatch, IsServed};
+ghost use Rattle.listeners.specs.Ways.{IsAnswerOf, IsByWay, AreByWay};
 ghost use Rattle.listeners.specs.Views.{view_of_run, turn_view, dispatch_view};
 
 use crate::Listener;
@@ -19,7 +20,7 @@ const MOST_CALLS: u32 = 1000;
 /// Why the dispatch of an event ended before all listeners were served.
 #[derive(Clone, Copy, Debug, PartialEq, Eq, Error)]
 pub enum DispatchFault {
-    /// There was no memory.
+    /// There was no memory, for a call that a listener may make or for anything else.
     #[error("out of memory")]
     OutOfMemory,
     /// The listener of this number made 1,000 calls for the event, and answered one more.
@@ -31,6 +32,8 @@ pub enum DispatchFault {
 }
 
 fn hear_one(listener: &mut Box<dyn Listener>, event: &Event) -> Result<(), OutOfMemory>
+    ensures kind { listener.new.vtable ≡ listener.old.vtable }
+    ensures way { way listener.new ≡ way listener.old }
     ensures rules { rules listener.new ≡ rules listener.old }
     ensures ok { OnOk result (notes listener.new
         ≡ notes listener.old ++ Note.Heard event.now ∷ []) }
@@ -43,6 +46,10 @@ fn ask_one(
     listener: &mut Box<dyn Listener>,
     last: Option<&Answer>,
 ) -> Result<Option<Call>, OutOfMemory>
+    ensures kind { listener.new.vtable ≡ listener.old.vtable }
+    ensures way { way listener.new ≡ way listener.old }
+    ensures answers { IfOk result (λ call. IsAnswerOf (way listener.old) (rules listener.old)
+        (notes listener.old ++ told_note (option_copied last.entry)) call) }
     ensures rules { rules listener.new ≡ rules listener.old }
     ensures ok { IfOk result (λ call. notes listener.new
         ≡ notes listener.old ++ (told_note (option_copied last.entry) ++ asked_note call)) }
@@ -62,6 +69,10 @@ fn make_one<S: FrameStore>(
     journal: &mut Journal,
 ) -> Result<Option<Call>, OutOfMemory>
     requires { 1 ≤ left.old }
+    ensures kind { listener.new.vtable ≡ listener.old.vtable }
+    ensures way { way listener.new ≡ way listener.old }
+    ensures by_way { IsByWay (way listener.old) (rules listener.old) (notes listener.old)
+        → IsByWay (way listener.new) (rules listener.new) (notes listener.new) }
     ensures rules { rules listener.new ≡ rules listener.old }
     ensures turn { IsCallTurn blobs.now call
         (turn_view number (view_of_run engine.old journal.old.entries left.old)
@@ -92,6 +103,10 @@ fn serve<S: FrameStore>(
     left: &mut u64,
     journal: &mut Journal,
 ) -> Result<(), DispatchFault>
+    ensures kind { listener.new.vtable ≡ listener.old.vtable }
+    ensures way { way listener.new ≡ way listener.old }
+    ensures by_way { IsByWay (way listener.old) (rules listener.old) (notes listener.old)
+        → IsByWay (way listener.new) (rules listener.new) (notes listener.new) }
     ensures rules { rules listener.new ≡ rules listener.old }
     ensures turn { IsServed blobs.now event.now
         (turn_view number (view_of_run engine.old journal.old.entries left.old)
@@ -126,7 +141,8 @@ fn serve<S: FrameStore>(
 /// Tells an event to each listener in turn. A listener that heard it is asked for calls until it has
 /// no further one, first with no answer and then each time with that of the call just made; each call
 /// is made on the engine at once, and stands in the journal. Only then does the next listener hear
-/// the event. The listeners may make `left` calls more together.
+/// the event. The listeners may make `left` calls more together. Each stays at its place, and answers
+/// by its way.
 ///
 /// `CallBudget` where a listener answers with a call after 1,000 calls for this event, `TaskBudget`
 /// where one answers with a call and no call is left, and `OutOfMemory`. The dispatch ends there:
@@ -142,6 +158,11 @@ pub fn dispatch<S: FrameStore>(
 ) -> Result<(), DispatchFault>
     requires { vec_len listeners.old < 2 ^ 32 }
     ensures count { vec_len listeners.new ≡ vec_len listeners.old }
+    ensures kinds { map (λ b. b.vtable) listeners.new.items
+        ≡ map (λ b. b.vtable) listeners.old.items }
+    ensures ways { map (λ b. way b) listeners.new.items ≡ map (λ b. way b) listeners.old.items }
+    ensures by_way { AreByWay way rules notes listeners.old.items
+        → AreByWay way rules notes listeners.new.items }
     ensures rules { map (λ b. rules b) listeners.new.items
         ≡ map (λ b. rules b) listeners.old.items }
     ensures dispatch { IsDispatch blobs.now event.now

@@ -1,8 +1,9 @@
-ghost use Rattle.std.specs.Prelude.{◌≡◌, ◌++◌, ◌∷◌, [], List, OnOk, OnErr, IfOk};
+ghost use Rattle.std.specs.Prelude.{◌≡◌, ◌++◌, ◌∷◌, [], List, Option, OnOk, OnErr, IfOk};
 ghost use Rattle.std.specs.Option.{option_copied};
 ghost use Rattle.mse_calls.specs.declared.rules.Rule.{Rule};
 ghost use Rattle.listeners.specs.declared.listener.Note.{Note};
 ghost use Rattle.listeners.specs.Notes.{told_note, asked_note};
+ghost use Rattle.listeners.specs.Ways.{Way, IsAnswerOf};
 
 use mse_base::OutOfMemory;
 use mse_calls::{Answer, Call, Event, Rule};
@@ -21,30 +22,40 @@ pub enum Note {
 }
 
 /// A listener. It hears an event, and is then asked for calls, each of which is made at once, until it
-/// has no further one. It means two lists: the rules that it was given, and notes of all that it was
-/// given and did, in their order. Notes are a meaning: a listener need not keep them.
+/// has no further one. It means two lists, and may tell by which function of them it answers. What it
+/// means is known by contracts alone: a listener need not keep notes.
 pub trait Listener: Drop {
+    /// The function by which it answers, where it tells one, as it may not where it looks at a clock.
+    ghost way: { Self → Option Way };
+
+    /// The rules that it was given.
     ghost rules: { Self → List Rule };
 
+    /// All that it was given and did, in its order.
     ghost notes: { Self → List Note };
 
     /// Gives it its rules, before it has heard or made anything. It takes no memory.
     fn set_rules(&mut self, list: Vec<Rule>)
         requires { notes self.old ≡ [] }
+        ensures way { way self.new ≡ way self.old }
         ensures rules { rules self.new ≡ list.items }
         ensures notes { notes self.new ≡ notes self.old };
 
     /// Tells it an event. After want of memory it has not heard it.
     fn hear(&mut self, event: &Event) -> Result<(), OutOfMemory>
+        ensures way { way self.new ≡ way self.old }
         ensures rules { rules self.new ≡ rules self.old }
         ensures ok { OnOk result (notes self.new ≡ notes self.old ++ Note.Heard event.now ∷ []) }
         ensures err { OnErr result (notes self.new ≡ notes self.old) };
 
     /// Tells it what its last call answered, if it made one, and asks it for a call. After want of
-    /// memory it was told and asked nothing.
+    /// memory it was told and asked nothing. It answers what its way gives.
     fn next(&mut self, last: Option<&Answer>) -> Result<Option<Call>, OutOfMemory>
+        ensures way { way self.new ≡ way self.old }
         ensures rules { rules self.new ≡ rules self.old }
         ensures ok { IfOk result (λ call. notes self.new
             ≡ notes self.old ++ (told_note (option_copied last.entry) ++ asked_note call)) }
+        ensures by_way { IfOk result (λ call. IsAnswerOf (way self.old) (rules self.old)
+            (notes self.old ++ told_note (option_copied last.entry)) call) }
         ensures err { OnErr result (notes self.new ≡ notes self.old) };
 }

@@ -1,4 +1,4 @@
-ghost use Rattle.std.specs.Prelude.{◌≡◌, ◌+◌, ◌-◌, ◌^◌, ◌<◌, ◌++◌, ◌∷◌, [], List, length, nat_lt, OnOk, OnErr, IfOk, if◌then◌else◌};
+ghost use Rattle.std.specs.Prelude.{◌≡◌, ◌+◌, ◌-◌, ◌^◌, ◌<◌, ◌++◌, ◌∷◌, [], List, Some, length, nat_lt, OnOk, OnErr, IfOk, if◌then◌else◌};
 ghost use Rattle.std.specs.List.{filter};
 ghost use Rattle.std.specs.Option.{option_copied};
 ghost use Rattle.mse_calls.specs.declared.events.Event.{Event};
@@ -136,6 +136,7 @@ impl RuleListener {
         ensures rules { result.rules ≡ [] }
         ensures notes { result.notes ≡ [] }
         ensures listener { ⟦<RuleListener as Listener>⟧.notes result ≡ [] }
+        ensures way { ⟦<RuleListener as Listener>⟧.way result ≡ Some next_call }
     {
         RuleListener {
             alloc,
@@ -160,6 +161,8 @@ impl RuleListener {
 }
 
 impl Listener for RuleListener {
+    ghost way = { λ _. Some next_call };
+
     ghost rules = { λ s. s.rules };
 
     ghost notes = { λ s. s.notes };
@@ -194,6 +197,8 @@ impl Listener for RuleListener {
             ≡ self.old.notes ++ (told_note (option_copied last.entry) ++ asked_note call)) }
         ensures err { OnErr result (self.new.notes ≡ self.old.notes) }
         ensures by_rules { IfOk result (λ call. call ≡ next_call self.old.rules self.old.notes) }
+        ensures by_way { IfOk result (λ call. call ≡ next_call self.old.rules
+            (self.old.notes ++ told_note (option_copied last.entry))) }
     {
         let Some(place) = self.due.get(self.at).copied() else {
             self.history = with_answer_and_remark(&self.history, last, Remark::Rested);

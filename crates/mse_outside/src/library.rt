@@ -21,7 +21,7 @@ pub trait Library {
     /// The bytes of each file by its name, where the library tells them.
     ghost table: { Self → Option Table };
 
-    /// How often a load has failed. The count stands still at 2^64 - 1.
+    /// How often a load has failed; each failed load is told. The count stands still at 2^64 - 1.
     ghost faults: { Self → ℕ };
 
     /// Appends the bytes of the file to `into`. After any answer but `Done`, `into` is as before.
@@ -32,5 +32,6 @@ pub trait Library {
         ensures appends { HasBytesAppended into.old.items into.new.items }
         ensures unchanged { result ≢ Loaded.Done → into.new.items ≡ into.old.items }
         ensures no_fewer_faults { faults self.old ≤ faults self.new }
-        ensures cause { result ≡ Loaded.Failed → HasRisen (faults self.old) (faults self.new) };
+        ensures cause { result ≡ Loaded.Failed → HasRisen (faults self.old) (faults self.new) }
+        ensures failures_told { result ≢ Loaded.Failed → faults self.new ≡ faults self.old };
 }

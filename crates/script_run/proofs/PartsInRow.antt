@@ -21,12 +21,12 @@ use Rattle.script_run.specs.PlayedParts.{HasGrown, IsPlayed, IsPlayedUpTo, IsPla
 use Rattle.script_run.specs.RunStates.{RunState}
 use Rattle.script_run.specs.NoteHistory.{IsAllHeard}
 use Rattle.script_run.specs.Text.{lines_of}
-use Rattle.script_run.specs.Turns.{AreInTurn, IsSpent, calls_in}
+use Rattle.script_run.specs.Turns.{AreInTurn, CallsLeft, HasCallsLeft, calls_in}
 use Rattle.script_run.specs.Writes.{IsWritten, IsFrontWritten}
-use Rattle.script_run.proofs.Writing.{wrote_none, wrote_more, front_more, front_none}
-use Rattle.script_run.proofs.Turning.{turns_then, calls_in-append}
-use Rattle.script_run.proofs.Telling.{heard_none, heard_then, cut_then}
-use Rattle.script_run.proofs.Cutting.{heard_to_all, over_then}
+use Rattle.script_run.proofs.PutLines.{wrote_none, wrote_more, front_more, front_none}
+use Rattle.script_run.proofs.ListenerTurns.{turns_then, calls_in-append}
+use Rattle.script_run.proofs.JournalNotes.{heard_none, heard_then, cut_then}
+use Rattle.script_run.proofs.CutDispatches.{heard_to_all, over_then}
 
 -- one part after another is a third
 abbrev pub ArePartsInRow : List (List ℕ) → EntryRelation → EntryRelation → EntryRelation → Type 0
@@ -55,45 +55,42 @@ played_then blobs one two both a b c joins p q = record {
   heard = heard_then (length b.notes) p.entries q.entries a.notes b.notes c.notes p.heard q.heard q.turns;
 }
 
-heard_to_then : (spent whole : List Entry → Type 0) (h : Halt) (count : ℕ) (xs ys : List Entry) (n0 n1 n2 : List (List Note)) → (spent ys → whole (xs ++ ys))
-    → IsAllHeard xs n0 n1 → AreInTurn count None ys → IsHeardUpTo spent h ys n1 n2 → IsHeardUpTo whole h (xs ++ ys) n0 n2
-heard_to_then spent whole halt.Memory count xs ys n0 n1 n2 more p turns (inl q) = inl (heard_then count xs ys n0 n1 n2 p q turns)
-heard_to_then spent whole halt.Memory count xs ys n0 n1 n2 more p turns (inr q) = inr (cut_then _ count xs ys n0 n1 n2 p q turns)
-heard_to_then spent whole halt.Write count xs ys n0 n1 n2 more p turns (inl q) = inl (heard_then count xs ys n0 n1 n2 p q turns)
-heard_to_then spent whole halt.Write count xs ys n0 n1 n2 more p turns (inr q) = inr (q.0, over_then spent whole q.0 count xs ys n0 n1 n2 more p turns q.1)
+heard_to_then : (part whole : CallsLeft) (h : Halt) (count : ℕ) (xs ys : List Entry) (n0 n1 n2 : List (List Note)) → ((left : ℕ) → part ys left → whole (xs ++ ys) left)
+    → IsAllHeard xs n0 n1 → AreInTurn count None ys → IsHeardUpTo part h ys n1 n2 → IsHeardUpTo whole h (xs ++ ys) n0 n2
+heard_to_then part whole halt.Memory count xs ys n0 n1 n2 more p turns (inl q) = inl (heard_then count xs ys n0 n1 n2 p q turns)
+heard_to_then part whole halt.Memory count xs ys n0 n1 n2 more p turns (inr (inl q)) = inr (inl (cut_then part whole _ count xs ys n0 n1 n2 more p q turns))
+heard_to_then part whole halt.Memory count xs ys n0 n1 n2 more p turns (inr (inr q)) = inr (inr (q.0, over_then part whole q.0 count xs ys n0 n1 n2 more p turns q.1))
+heard_to_then part whole halt.Write count xs ys n0 n1 n2 more p turns (inl q) = inl (heard_then count xs ys n0 n1 n2 p q turns)
+heard_to_then part whole halt.Write count xs ys n0 n1 n2 more p turns (inr q) = inr (q.0, over_then part whole q.0 count xs ys n0 n1 n2 more p turns q.1)
 
--- a part stopped behind another; what is spent in the second is spent in both, by `more`
-pub stopped_then : (spent whole : List Entry → Type 0) (stop : Stop) (count : ℕ) (xs ys : List Entry) (a b c : RunState) → (spent ys → whole (xs ++ ys))
-    → IsWritten (lines_of xs) a.written b.written → IsAllHeard xs a.notes b.notes → AreInTurn count None ys → IsStoppedBy spent stop ys b c
+-- a part stopped behind another; what is left behind the second is left behind both, by `more`
+pub stopped_then : (part whole : CallsLeft) (stop : Stop) (count : ℕ) (xs ys : List Entry) (a b c : RunState) → ((left : ℕ) → part ys left → whole (xs ++ ys) left)
+    → IsWritten (lines_of xs) a.written b.written → IsAllHeard xs a.notes b.notes → AreInTurn count None ys → IsStoppedBy part stop ys b c
     → IsStoppedBy whole stop (xs ++ ys) a c
-stopped_then spent whole (Halted h) count xs ys a b c more w p turns s = (
+stopped_then part whole (Halted h) count xs ys a b c more w p turns s = (
   lines_then_front xs ys a.written b.written c.written w s.0,
-  heard_to_then spent whole h count xs ys a.notes b.notes c.notes more p turns s.1,
+  heard_to_then part whole h count xs ys a.notes b.notes c.notes more p turns s.1,
 )
-stopped_then spent whole (CallBudget k) count xs ys a b c more w p turns s = (
+stopped_then part whole (CallBudget k) count xs ys a b c more w p turns s = (
   lines_then xs ys a.written b.written c.written w s.0,
-  over_then spent whole (CallBudget k) count xs ys a.notes b.notes c.notes more p turns s.1,
+  over_then part whole (CallBudget k) count xs ys a.notes b.notes c.notes more p turns s.1,
 )
-stopped_then spent whole TaskBudget count xs ys a b c more w p turns s = (
+stopped_then part whole TaskBudget count xs ys a b c more w p turns s = (
   lines_then xs ys a.written b.written c.written w s.0,
-  over_then spent whole TaskBudget count xs ys a.notes b.notes c.notes more p turns s.1,
+  over_then part whole TaskBudget count xs ys a.notes b.notes c.notes more p turns s.1,
 )
 
-pub played_stop : (blobs : List (List ℕ)) (one two both : EntryRelation) (spent whole : List Entry → Type 0) (stop : Stop) (a b c : RunState) → ArePartsInRow blobs one two both
-    → (p : IsPlayed blobs one a b) → ((ys : List Entry) → spent ys → whole (p.entries ++ ys)) → IsPlayedUpTo blobs (part_front two spent) stop b c → IsPlayedUpTo blobs (part_front both whole) stop a c
-played_stop blobs one two both spent whole stop a b c joins p more q = record {
+pub played_stop : (blobs : List (List ℕ)) (one two both : EntryRelation) (part whole : CallsLeft) (stop : Stop) (a b c : RunState) → ArePartsInRow blobs one two both
+    → (p : IsPlayed blobs one a b) → ((ys : List Entry) (left : ℕ) → part ys left → whole (p.entries ++ ys) left) → IsPlayedUpTo blobs (part_front two part) stop b c → IsPlayedUpTo blobs (part_front both whole) stop a c
+played_stop blobs one two both part whole stop a b c joins p more q = record {
   entries = p.entries ++ q.entries;
   grew = grew_then blobs one two both a.run b.run c.run p.entries q.entries joins p.grew q.grew;
   turns = turns_then (length a.notes) None p.entries q.entries p.turns (rw p.heard.count at q.turns);
-  stopped = stopped_then spent whole stop (length b.notes) p.entries q.entries a b c (more q.entries) p.wrote p.heard q.turns q.stopped;
+  stopped = stopped_then part whole stop (length b.notes) p.entries q.entries a b c (more q.entries) p.wrote p.heard q.turns q.stopped;
 }
 
 left_then : (xs ys : List Entry) (l0 l1 l2 : ℕ) → l0 ≡ l1 + calls_in xs → l1 ≡ l2 + calls_in ys → l0 ≡ l2 + calls_in (xs ++ ys)
 left_then xs ys l0 l1 l2 p q = rw (calls_in-append xs ys) (omega (arith, p, q))
-
--- the calls that were left behind one part were made in the next
-spent_then : (xs ys : List Entry) (l0 l1 : ℕ) → l0 ≡ l1 + calls_in xs → IsSpent l1 ys → IsSpent l0 (xs ++ ys)
-spent_then xs ys l0 l1 p e = rw (calls_in-append xs ys) (omega (arith, p, e))
 
 pub ran_then : (blobs : List (List ℕ)) (one two both : EntryRelation) (a b c : RunState) → ArePartsInRow blobs one two both → IsPlayedInLine blobs one a b → IsPlayedInLine blobs two b c → IsPlayedInLine blobs both a c
 unfolding played_then
@@ -106,8 +103,8 @@ pub ran_stop : (blobs : List (List ℕ)) (one two both : EntryRelation) (stop : 
     → IsPlayedInLineUpTo blobs two stop b c → IsPlayedInLineUpTo blobs both stop a c
 unfolding played_stop
 ran_stop blobs one two both stop a b c joins p q = record {
-  played = played_stop blobs one two both (IsSpent b.run.left) (IsSpent a.run.left) stop a b c joins p.played
-      (λ ys e. spent_then p.played.entries ys a.run.left b.run.left p.left e) q.played;
+  played = played_stop blobs one two both (HasCallsLeft b.run.left) (HasCallsLeft a.run.left) stop a b c joins p.played
+      (λ ys left e. left_then p.played.entries ys a.run.left b.run.left left p.left e) q.played;
   left = left_then p.played.entries q.played.entries a.run.left b.run.left c.run.left p.left q.left;
 }
 
@@ -128,19 +125,19 @@ ran_none blobs does a holds = record {
 }
 
 -- it stopped before anything was done
-pub played_none : (blobs : List (List ℕ)) (spent : List Entry → Type 0) (begins : EntryRelation) (h : Halt) (a : RunState) → ((st : State) → Stands a.run.engine st → begins st [])
-    → IsPlayedUpTo blobs (part_front begins spent) (Halted h) a a
-played_none blobs spent begins h a holds = record {
+pub played_none : (blobs : List (List ℕ)) (calls_left : CallsLeft) (begins : EntryRelation) (h : Halt) (a : RunState) → ((st : State) → Stands a.run.engine st → begins st [])
+    → IsPlayedUpTo blobs (part_front begins calls_left) (Halted h) a a
+played_none blobs calls_left begins h a holds = record {
   entries = [];
   grew = grew_none blobs begins a.run holds;
   turns = tt;
-  stopped = (front_none a.written [], heard_to_all spent h [] a.notes a.notes (heard_none a.notes));
+  stopped = (front_none a.written [], heard_to_all calls_left h [] a.notes a.notes (heard_none a.notes));
 }
 
 pub halt_none : (blobs : List (List ℕ)) (begins : EntryRelation) (h : Halt) (a : RunState) → ((st : State) → Stands a.run.engine st → begins st []) → IsPlayedInLineUpTo blobs begins (Halted h) a a
 unfolding played_none
 halt_none blobs begins h a holds = record {
-  played = played_none blobs (IsSpent a.run.left) begins h a holds;
+  played = played_none blobs (HasCallsLeft a.run.left) begins h a holds;
   left = omega arith;
 }
 

@@ -21,15 +21,15 @@ element_step = record { entry = Element; after = after_element_turn }
 
 -- no event waits, and no buffer works
 pub record IsQuiet (st : State) : Type 0 where
-  pub queue : st.outer.queue ≡ []
+  pub queue : st.element.queue ≡ []
   pub running : running_in st ≡ None
 
 -- The entry is what a drain does next: an event is fired while there is one, else the lowest buffer
 -- that has work works one item, else the element takes a turn that is due. The calls of listeners
 -- are not its own.
 abbrev pub IsNextStep : State → Entry → Type 0
-IsNextStep st (Fired event) = slice_get st.outer.queue 0 ≡ Some event
-IsNextStep st (Work k) = (st.outer.queue ≡ []) × (running_in st ≡ Some k)
+IsNextStep st (Fired event) = slice_get st.element.queue 0 ≡ Some event
+IsNextStep st (Work k) = (st.element.queue ≡ []) × (running_in st ≡ Some k)
 IsNextStep st Element = IsQuiet st × (is_turn_due st ≡ true)
 IsNextStep st (Listener w call answer) = ⊤
 IsNextStep st (Script call answer) = ⊥
@@ -37,7 +37,7 @@ IsNextStep st (Step n) = ⊥
 
 -- no event waits
 abbrev pub HasNoEvent : State → Type 0
-HasNoEvent st = st.outer.queue ≡ []
+HasNoEvent st = st.element.queue ≡ []
 
 -- there is nothing left to do
 pub record IsAtRest (st : State) : Type 0 where

@@ -23,7 +23,7 @@ use Rattle.script_run.specs.DrainSteps.{AreInDrainOrder, MachineStep, HasNoEvent
 use Rattle.script_run.specs.RunStates.{PrintedRun, RunState}
 use Rattle.script_run.specs.NoteHistory.{IsAllHeard}
 use Rattle.script_run.specs.Text.{lines_of}
-use Rattle.script_run.specs.Turns.{AreInTurn, IsSpent, calls_in}
+use Rattle.script_run.specs.Turns.{AreInTurn, CallsLeft, HasCallsLeft, calls_in}
 use Rattle.script_run.specs.Writes.{IsWritten, IsFrontWritten}
 
 -- entries came, which the engine went by, and no listener called
@@ -75,56 +75,58 @@ pub record IsPlayedInLine (blobs : List (List ℕ)) (does : EntryRelation)
   pub played : IsPlayed blobs does old new
   pub left : old.run.left ≡ new.run.left + calls_in played.entries
 
--- The dispatch of the last event ended with a fault; the entries behind it are its calls. Whether
--- no call was left to the listeners, these entries alone do not tell.
-pub record IsDispatchCut (fault : DispatchFault) (entries : List Entry)
+-- The dispatch of the last event ended with a fault; the entries behind it are its calls, and so many
+-- calls were left then.
+pub record IsDispatchCut (calls_left : CallsLeft) (fault : DispatchFault) (entries : List Entry)
     (old new : List (List Note)) : Type 0 where
   pub before : List Entry
   pub event : Event
   pub calls : List Entry
+  pub left : ℕ
   pub middle : List (List Note)
   pub entries_are : entries ≡ before ++ Fired event ∷ calls
+  pub left_is : calls_left entries left
   pub heard : IsAllHeard before old middle
   pub in_turn : AreCallsInTurn 0 (length middle) calls
   pub count : length new ≡ length middle
-  pub end : IsFailedDispatch event (dispatch_end calls 0 middle new) fault
+  pub end : IsFailedDispatch event (dispatch_end calls left middle new) fault
 
--- A listener answered a call beyond a limit, for which a run stops so. `spent` says of entries that
--- listeners may make no further call.
-abbrev pub IsOverLimit : (List Entry → Type 0) → Stop → List Entry
+-- A listener answered a call beyond a limit, for which a run stops so.
+abbrev pub IsOverLimit : CallsLeft → Stop → List Entry
     → List (List Note) → List (List Note) → Type 0
-IsOverLimit spent (CallBudget k) entries old new =
-    IsDispatchCut (fault.CallBudget k) entries old new
-IsOverLimit spent TaskBudget entries old new =
-    spent entries × IsDispatchCut fault.TaskBudget entries old new
-IsOverLimit spent (Halted halt) entries old new = ⊥
+IsOverLimit calls_left (CallBudget k) entries old new =
+    IsDispatchCut calls_left (fault.CallBudget k) entries old new
+IsOverLimit calls_left TaskBudget entries old new =
+    IsDispatchCut calls_left fault.TaskBudget entries old new
+IsOverLimit calls_left (Halted halt) entries old new = ⊥
 
--- What was heard where memory or the sink was wanting: each listener heard each event, but that
--- memory may have been wanting in the dispatch of the last one, or, where the sink was wanting, that
--- this dispatch may have ended at a limit.
-abbrev pub IsHeardUpTo : (List Entry → Type 0) → Halt → List Entry
+-- What was heard where memory or the sink was wanting: each listener heard each event, but that the
+-- dispatch of the last one may have ended at a limit, or, where memory was wanting, for want of it.
+abbrev pub IsHeardUpTo : CallsLeft → Halt → List Entry
     → List (List Note) → List (List Note) → Type 0
-IsHeardUpTo spent halt.Memory entries old new =
-    IsAllHeard entries old new ⊎ IsDispatchCut fault.OutOfMemory entries old new
-IsHeardUpTo spent halt.Write entries old new =
-    IsAllHeard entries old new ⊎ ((stop : Stop) × IsOverLimit spent stop entries old new)
+IsHeardUpTo calls_left halt.Memory entries old new =
+    IsAllHeard entries old new
+    ⊎ IsDispatchCut calls_left fault.OutOfMemory entries old new
+    ⊎ ((stop : Stop) × IsOverLimit calls_left stop entries old new)
+IsHeardUpTo calls_left halt.Write entries old new =
+    IsAllHeard entries old new ⊎ ((stop : Stop) × IsOverLimit calls_left stop entries old new)
 
 -- what was written and heard where a part stopped so
-abbrev pub IsStoppedBy : (List Entry → Type 0) → Stop → List Entry → RunState → RunState → Type 0
-IsStoppedBy spent (Halted halt) entries old new =
+abbrev pub IsStoppedBy : CallsLeft → Stop → List Entry → RunState → RunState → Type 0
+IsStoppedBy calls_left (Halted halt) entries old new =
     IsFrontWritten (lines_of entries) old.written new.written
-    × IsHeardUpTo spent halt entries old.notes new.notes
-IsStoppedBy spent stop entries old new =
+    × IsHeardUpTo calls_left halt entries old.notes new.notes
+IsStoppedBy calls_left stop entries old new =
     IsWritten (lines_of entries) old.written new.written
-    × IsOverLimit spent stop entries old.notes new.notes
+    × IsOverLimit calls_left stop entries old.notes new.notes
 
--- a front of a part, and what says of its entries that listeners may make no further call
+-- a front of a part, and what says how many calls are left behind its entries
 pub record PartFront : Type 1 where
   pub begins : EntryRelation
-  pub spent : List Entry → Type 0
+  pub calls_left : CallsLeft
 
-abbrev pub part_front : EntryRelation → (List Entry → Type 0) → PartFront
-part_front begins spent = record { begins = begins; spent = spent }
+abbrev pub part_front : EntryRelation → CallsLeft → PartFront
+part_front begins calls_left = record { begins = begins; calls_left = calls_left }
 
 -- a part stopped: the entries are those of a front of it
 pub record IsPlayedUpTo (blobs : List (List ℕ)) (front : PartFront) (stop : Stop)
@@ -132,20 +134,20 @@ pub record IsPlayedUpTo (blobs : List (List ℕ)) (front : PartFront) (stop : St
   pub entries : List Entry
   pub grew : HasGrown blobs front.begins old.run new.run entries
   pub turns : AreInTurn (length old.notes) None entries
-  pub stopped : IsStoppedBy front.spent stop entries old new
+  pub stopped : IsStoppedBy front.calls_left stop entries old new
 
 -- in a line, in which so many calls were left
 pub record IsPlayedInLineUpTo (blobs : List (List ℕ)) (begins : EntryRelation) (stop : Stop)
     (old new : RunState) : Type 0 where
-  pub played : IsPlayedUpTo blobs (part_front begins (IsSpent old.run.left)) stop old new
+  pub played : IsPlayedUpTo blobs (part_front begins (HasCallsLeft old.run.left)) stop old new
   pub left : old.run.left ≡ new.run.left + calls_in played.entries
 
 -- a part or a front of it, by how it ended
-abbrev pub IsPlayedBy : {A : Type 0} → (List Entry → Type 0) → RunPart
+abbrev pub IsPlayedBy : {A : Type 0} → CallsLeft → RunPart
     → RunState → RunState → Result A Stop → Type 0
-IsPlayedBy spent course old new (Ok x) = IsPlayed course.blobs course.does old new
-IsPlayedBy spent course old new (Err stop) =
-    IsPlayedUpTo course.blobs (part_front course.begins spent) stop old new
+IsPlayedBy calls_left course old new (Ok x) = IsPlayed course.blobs course.does old new
+IsPlayedBy calls_left course old new (Err stop) =
+    IsPlayedUpTo course.blobs (part_front course.begins calls_left) stop old new
 
 abbrev pub IsPlayedInLineBy : {A : Type 0} → RunPart → RunState → RunState → Result A Stop → Type 0
 IsPlayedInLineBy course old new (Ok x) = IsPlayedInLine course.blobs course.does old new

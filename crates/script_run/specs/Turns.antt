@@ -1,5 +1,5 @@
 -- When listeners call (docs/SCRIPTS.md, rules).
-use Rattle.std.specs.Prelude.{◌≡◌, ◌⊎◌, ◌<◌, ℕ, suc, ◌==◌, List, [], ◌∷◌, ◌++◌, Option, Some, None, if◌then◌else◌, ⊤}
+use Rattle.std.specs.Prelude.{◌≡◌, ◌⊎◌, ◌<◌, ◌+◌, ℕ, suc, ◌==◌, List, [], ◌∷◌, ◌++◌, Option, Some, None, if◌then◌else◌, ⊤}
 use Rattle.mse_calls.specs.declared.entry.Entry.{Entry}
 use Rattle.mse_calls.specs.declared.entry.Entry.TheVariants.{Step, Script, Listener, Fired, Work, Element}
 
@@ -58,15 +58,19 @@ steps_in (Script call answer ∷ entries) = steps_in entries
 steps_in (Work k ∷ entries) = steps_in entries
 steps_in (Element ∷ entries) = steps_in entries
 
--- listeners made so many calls
-abbrev pub IsSpent : ℕ → List Entry → Type 0
-IsSpent limit entries = calls_in entries ≡ limit
+-- says how many calls listeners may still make behind entries
+abbrev pub CallsLeft : Type 1
+CallsLeft = List Entry → ℕ → Type 0
 
--- listeners made so many calls in the line that was begun last
-pub record IsSpentInLine (limit : ℕ) (entries : List Entry) : Type 0 where
+-- where they may make `limit` calls
+abbrev pub HasCallsLeft : ℕ → List Entry → ℕ → Type 0
+HasCallsLeft limit entries left = limit ≡ left + calls_in entries
+
+-- where they may make `limit` calls in the line that was begun last
+pub record HasCallsLeftInLine (limit : ℕ) (entries : List Entry) (left : ℕ) : Type 0 where
   pub front : List Entry
   pub number : ℕ
   pub part : List Entry
   pub entries_are : entries ≡ front ++ Step number ∷ part
   pub one_line : steps_in part ≡ 0
-  pub calls : IsSpent limit part
+  pub calls : HasCallsLeft limit part left

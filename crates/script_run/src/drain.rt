@@ -10,6 +10,7 @@ ghost use Rattle.script_run.specs.DrainSteps.{IsAtRest, IsQuiet, HasNoEvent};
 ghost use Rattle.script_run.specs.Progress.{IsCalm, HasFewerEvents};
 ghost use Rattle.script_run.specs.PlayedParts.{IsPlayedInLineBy};
 ghost use Rattle.script_run.specs.RunStates.{run_at};
+ghost use Rattle.listeners.specs.Ways.{AreByWay};
 
 use crate::put::put_entries;
 use crate::run::ScriptRun;
@@ -30,6 +31,11 @@ impl<S: FrameStore> ScriptRun<S> {
     ) -> Result<bool, Stop>
         requires { vec_len listeners.old < 2 ^ 32 }
         ensures count { vec_len listeners.new ≡ vec_len listeners.old }
+        ensures kinds { map (λ b. b.vtable) listeners.new.items
+            ≡ map (λ b. b.vtable) listeners.old.items }
+        ensures ways { map (λ b. way b) listeners.new.items ≡ map (λ b. way b) listeners.old.items }
+        ensures by_way { AreByWay way rules notes listeners.old.items
+            → AreByWay way rules notes listeners.new.items }
         ensures rules { map (λ b. rules b) listeners.new.items
             ≡ map (λ b. rules b) listeners.old.items }
         ensures ran { IsPlayedInLineBy (line_part blobs.now StepLine.Fire)
@@ -43,6 +49,8 @@ impl<S: FrameStore> ScriptRun<S> {
         ensures no_fewer_faults { K.faults sink.old ≤ K.faults sink.new }
         ensures cause { IsErrOf result (Stop.Halted Halt.Write)
             → HasRisen (K.faults sink.old) (K.faults sink.new) }
+        ensures failures_told { ¬ IsErrOf result (Stop.Halted Halt.Write)
+            → K.faults sink.new ≡ K.faults sink.old }
     {
         let from = self.journal.len();
         let Ok(next_event) = self.take_event() else {
@@ -83,6 +91,11 @@ impl<S: FrameStore> ScriptRun<S> {
     ) -> Result<bool, Stop>
         requires { vec_len listeners.old < 2 ^ 32 }
         ensures count { vec_len listeners.new ≡ vec_len listeners.old }
+        ensures kinds { map (λ b. b.vtable) listeners.new.items
+            ≡ map (λ b. b.vtable) listeners.old.items }
+        ensures ways { map (λ b. way b) listeners.new.items ≡ map (λ b. way b) listeners.old.items }
+        ensures by_way { AreByWay way rules notes listeners.old.items
+            → AreByWay way rules notes listeners.new.items }
         ensures rules { map (λ b. rules b) listeners.new.items
             ≡ map (λ b. rules b) listeners.old.items }
         ensures ran { IsPlayedInLineBy (drain_part blobs.now)
@@ -95,6 +108,8 @@ impl<S: FrameStore> ScriptRun<S> {
         ensures no_fewer_faults { K.faults sink.old ≤ K.faults sink.new }
         ensures cause { IsErrOf result (Stop.Halted Halt.Write)
             → HasRisen (K.faults sink.old) (K.faults sink.new) }
+        ensures failures_told { ¬ IsErrOf result (Stop.Halted Halt.Write)
+            → K.faults sink.new ≡ K.faults sink.old }
     {
         let before = self.left;
         'firing: loop {
@@ -119,6 +134,11 @@ impl<S: FrameStore> ScriptRun<S> {
     ) -> Result<bool, Stop>
         requires { vec_len listeners.old < 2 ^ 32 }
         ensures count { vec_len listeners.new ≡ vec_len listeners.old }
+        ensures kinds { map (λ b. b.vtable) listeners.new.items
+            ≡ map (λ b. b.vtable) listeners.old.items }
+        ensures ways { map (λ b. way b) listeners.new.items ≡ map (λ b. way b) listeners.old.items }
+        ensures by_way { AreByWay way rules notes listeners.old.items
+            → AreByWay way rules notes listeners.new.items }
         ensures rules { map (λ b. rules b) listeners.new.items
             ≡ map (λ b. rules b) listeners.old.items }
         ensures ran { IsPlayedInLineBy (drain_part blobs.now)
@@ -130,6 +150,8 @@ impl<S: FrameStore> ScriptRun<S> {
         ensures no_fewer_faults { K.faults sink.old ≤ K.faults sink.new }
         ensures cause { IsErrOf result (Stop.Halted Halt.Write)
             → HasRisen (K.faults sink.old) (K.faults sink.new) }
+        ensures failures_told { ¬ IsErrOf result (Stop.Halted Halt.Write)
+            → K.faults sink.new ≡ K.faults sink.old }
     {
         'working: loop {
             match self.fire_all(blobs, sink, listeners) {
@@ -159,6 +181,11 @@ impl<S: FrameStore> ScriptRun<S> {
         requires quiet { (st : State) → Stands self.old.engine st → IsQuiet st }
         requires listeners { vec_len listeners.old < 2 ^ 32 }
         ensures count { vec_len listeners.new ≡ vec_len listeners.old }
+        ensures kinds { map (λ b. b.vtable) listeners.new.items
+            ≡ map (λ b. b.vtable) listeners.old.items }
+        ensures ways { map (λ b. way b) listeners.new.items ≡ map (λ b. way b) listeners.old.items }
+        ensures by_way { AreByWay way rules notes listeners.old.items
+            → AreByWay way rules notes listeners.new.items }
         ensures rules { map (λ b. rules b) listeners.new.items
             ≡ map (λ b. rules b) listeners.old.items }
         ensures ran { IsPlayedInLineBy (drain_part blobs.now)
@@ -170,6 +197,8 @@ impl<S: FrameStore> ScriptRun<S> {
         ensures no_fewer_faults { K.faults sink.old ≤ K.faults sink.new }
         ensures cause { IsErrOf result (Stop.Halted Halt.Write)
             → HasRisen (K.faults sink.old) (K.faults sink.new) }
+        ensures failures_told { ¬ IsErrOf result (Stop.Halted Halt.Write)
+            → K.faults sink.new ≡ K.faults sink.old }
     {
         'turning: loop {
             // The proof reads off this that there is a state that the engine stands for.
@@ -197,6 +226,11 @@ impl<S: FrameStore> ScriptRun<S> {
     ) -> Result<bool, Stop>
         requires { vec_len listeners.old < 2 ^ 32 }
         ensures count { vec_len listeners.new ≡ vec_len listeners.old }
+        ensures kinds { map (λ b. b.vtable) listeners.new.items
+            ≡ map (λ b. b.vtable) listeners.old.items }
+        ensures ways { map (λ b. way b) listeners.new.items ≡ map (λ b. way b) listeners.old.items }
+        ensures by_way { AreByWay way rules notes listeners.old.items
+            → AreByWay way rules notes listeners.new.items }
         ensures rules { map (λ b. rules b) listeners.new.items
             ≡ map (λ b. rules b) listeners.old.items }
         ensures ran { IsPlayedInLineBy (drain_part blobs.now)
@@ -208,6 +242,8 @@ impl<S: FrameStore> ScriptRun<S> {
         ensures no_fewer_faults { K.faults sink.old ≤ K.faults sink.new }
         ensures cause { IsErrOf result (Stop.Halted Halt.Write)
             → HasRisen (K.faults sink.old) (K.faults sink.new) }
+        ensures failures_told { ¬ IsErrOf result (Stop.Halted Halt.Write)
+            → K.faults sink.new ≡ K.faults sink.old }
     {
         match self.work_all(blobs, sink, listeners) {
             Err(stop) => return Err(stop),
@@ -229,6 +265,11 @@ impl<S: FrameStore> ScriptRun<S> {
     ) -> Result<(), Stop>
         requires { vec_len listeners.old < 2 ^ 32 }
         ensures count { vec_len listeners.new ≡ vec_len listeners.old }
+        ensures kinds { map (λ b. b.vtable) listeners.new.items
+            ≡ map (λ b. b.vtable) listeners.old.items }
+        ensures ways { map (λ b. way b) listeners.new.items ≡ map (λ b. way b) listeners.old.items }
+        ensures by_way { AreByWay way rules notes listeners.old.items
+            → AreByWay way rules notes listeners.new.items }
         ensures rules { map (λ b. rules b) listeners.new.items
             ≡ map (λ b. rules b) listeners.old.items }
         ensures ran { IsPlayedInLineBy (line_part blobs.now StepLine.Drain)
@@ -237,6 +278,8 @@ impl<S: FrameStore> ScriptRun<S> {
         ensures no_fewer_faults { K.faults sink.old ≤ K.faults sink.new }
         ensures cause { IsErrOf result (Stop.Halted Halt.Write)
             → HasRisen (K.faults sink.old) (K.faults sink.new) }
+        ensures failures_told { ¬ IsErrOf result (Stop.Halted Halt.Write)
+            → K.faults sink.new ≡ K.faults sink.old }
     {
         'draining: loop {
             match self.finish_work(blobs, sink, listeners) {

@@ -7,7 +7,8 @@ ghost use Rattle.script_run.specs.RunParts.{line_part, numbered_line_part, scrip
 ghost use Rattle.script_run.specs.Lines.{limits, play_inputs};
 ghost use Rattle.script_run.specs.PlayedParts.{IsCallHalted, IsCallMade, IsPlayedBy, IsPlayedInLineBy};
 ghost use Rattle.script_run.specs.RunStates.{printed_run, run_at};
-ghost use Rattle.script_run.specs.Turns.{IsSpentInLine};
+ghost use Rattle.script_run.specs.Turns.{HasCallsLeftInLine};
+ghost use Rattle.listeners.specs.Ways.{AreByWay};
 
 use crate::put::put_entries;
 use crate::run::ScriptRun;
@@ -35,6 +36,8 @@ impl<S: FrameStore> ScriptRun<S> {
         ensures no_fewer_faults { K.faults sink.old ≤ K.faults sink.new }
         ensures cause { IsErrOf result Halt.Write
             → HasRisen (K.faults sink.old) (K.faults sink.new) }
+        ensures failures_told { ¬ IsErrOf result Halt.Write
+            → K.faults sink.new ≡ K.faults sink.old }
     {
         let from = self.journal.len();
         let Ok(()) = self.call(blobs, call) else {
@@ -53,6 +56,11 @@ impl<S: FrameStore> ScriptRun<S> {
     ) -> Result<(), Stop>
         requires { vec_len listeners.old < 2 ^ 32 }
         ensures count { vec_len listeners.new ≡ vec_len listeners.old }
+        ensures kinds { map (λ b. b.vtable) listeners.new.items
+            ≡ map (λ b. b.vtable) listeners.old.items }
+        ensures ways { map (λ b. way b) listeners.new.items ≡ map (λ b. way b) listeners.old.items }
+        ensures by_way { AreByWay way rules notes listeners.old.items
+            → AreByWay way rules notes listeners.new.items }
         ensures rules { map (λ b. rules b) listeners.new.items
             ≡ map (λ b. rules b) listeners.old.items }
         ensures ran { IsPlayedInLineBy (line_part blobs.now line.now)
@@ -61,6 +69,8 @@ impl<S: FrameStore> ScriptRun<S> {
         ensures no_fewer_faults { K.faults sink.old ≤ K.faults sink.new }
         ensures cause { IsErrOf result (Stop.Halted Halt.Write)
             → HasRisen (K.faults sink.old) (K.faults sink.new) }
+        ensures failures_told { ¬ IsErrOf result (Stop.Halted Halt.Write)
+            → K.faults sink.new ≡ K.faults sink.old }
     {
         match line {
             StepLine::Call(call) => match self.call_and_print(blobs, sink, call) {
@@ -95,15 +105,22 @@ impl<S: FrameStore> ScriptRun<S> {
     ) -> Result<(), Stop>
         requires { vec_len listeners.old < 2 ^ 32 }
         ensures count { vec_len listeners.new ≡ vec_len listeners.old }
+        ensures kinds { map (λ b. b.vtable) listeners.new.items
+            ≡ map (λ b. b.vtable) listeners.old.items }
+        ensures ways { map (λ b. way b) listeners.new.items ≡ map (λ b. way b) listeners.old.items }
+        ensures by_way { AreByWay way rules notes listeners.old.items
+            → AreByWay way rules notes listeners.new.items }
         ensures rules { map (λ b. rules b) listeners.new.items
             ≡ map (λ b. rules b) listeners.old.items }
-        ensures played { IsPlayedBy (IsSpentInLine limit) (numbered_line_part
+        ensures played { IsPlayedBy (HasCallsLeftInLine limit) (numbered_line_part
             (play_inputs blobs.now (limits limit (vec_len listeners.old))) n line.now)
             (run_at self.old (K.written sink.old) (map (λ b. notes b) listeners.old.items))
             (run_at self.new (K.written sink.new) (map (λ b. notes b) listeners.new.items)) result }
         ensures no_fewer_faults { K.faults sink.old ≤ K.faults sink.new }
         ensures cause { IsErrOf result (Stop.Halted Halt.Write)
             → HasRisen (K.faults sink.old) (K.faults sink.new) }
+        ensures failures_told { ¬ IsErrOf result (Stop.Halted Halt.Write)
+            → K.faults sink.new ≡ K.faults sink.old }
     {
         match self.open_line(n, limit) {
             Ok(()) => self.do_line(blobs, sink, listeners, line),
@@ -128,15 +145,22 @@ impl<S: FrameStore> ScriptRun<S> {
         requires lines { length lines.now < 2 ^ 32 }
         requires listeners { vec_len listeners.old < 2 ^ 32 }
         ensures count { vec_len listeners.new ≡ vec_len listeners.old }
+        ensures kinds { map (λ b. b.vtable) listeners.new.items
+            ≡ map (λ b. b.vtable) listeners.old.items }
+        ensures ways { map (λ b. way b) listeners.new.items ≡ map (λ b. way b) listeners.old.items }
+        ensures by_way { AreByWay way rules notes listeners.old.items
+            → AreByWay way rules notes listeners.new.items }
         ensures rules { map (λ b. rules b) listeners.new.items
             ≡ map (λ b. rules b) listeners.old.items }
-        ensures played { IsPlayedBy (IsSpentInLine limit) (script_part blobs.now
+        ensures played { IsPlayedBy (HasCallsLeftInLine limit) (script_part blobs.now
             (limits limit (vec_len listeners.old)) lines.now)
             (run_at self.old (K.written sink.old) (map (λ b. notes b) listeners.old.items))
             (run_at self.new (K.written sink.new) (map (λ b. notes b) listeners.new.items)) result }
         ensures no_fewer_faults { K.faults sink.old ≤ K.faults sink.new }
         ensures cause { IsErrOf result (Stop.Halted Halt.Write)
             → HasRisen (K.faults sink.old) (K.faults sink.new) }
+        ensures failures_told { ¬ IsErrOf result (Stop.Halted Halt.Write)
+            → K.faults sink.new ≡ K.faults sink.old }
     {
         for n in 0..lines.len() {
             match self.play_line(blobs, sink, listeners, limit, n as u32, &lines[n]) {

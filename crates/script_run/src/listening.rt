@@ -3,6 +3,7 @@
 ghost use Rattle.std.specs.Prelude.{◌≡◌, ◌≤◌, ◌<◌, ◌+◌, ◌^◌, ◌==◌, ◌++◌, ◌∷◌, not, ℕ, [], IfOk, OnOk, OnErr, map, vec_len};
 ghost use Rattle.std.specs.List.{filter};
 ghost use Rattle.listeners.specs.Dispatch.{notes_at};
+ghost use Rattle.listeners.specs.Ways.{AreByWay};
 ghost use Rattle.script_run.specs.Rules.{is_for, rules_of_listener, rules_for};
 
 use listeners::Listener;
@@ -50,13 +51,16 @@ fn rules_by_number(
 
 fn give_to(listener: &mut Box<dyn Listener>, list: Vec<Rule>)
     requires { notes listener.old ≡ [] }
+    ensures kind { listener.new.vtable ≡ listener.old.vtable }
+    ensures way { way listener.new ≡ way listener.old }
     ensures rules { rules listener.new ≡ list.items }
     ensures notes { notes listener.new ≡ notes listener.old }
 {
     listener.set_rules(list);
 }
 
-/// Gives each listener the rules of its number, in their order. Rules of other numbers go.
+/// Gives each listener the rules of its number, in their order. Rules of other numbers go. Each
+/// listener stays at its place, and answers as before.
 ///
 /// An `Err` is want of memory; then listeners in front may have their rules already, and those
 /// behind have the rules that they had.
@@ -68,8 +72,12 @@ pub fn give_rules(
     requires listeners { vec_len listeners.old < 2 ^ 32 }
     requires no_notes { (w : ℕ) → notes_at (map (λ b. notes b) listeners.old.items) w ≡ [] }
     ensures count { vec_len listeners.new ≡ vec_len listeners.old }
+    ensures kinds { map (λ b. b.vtable) listeners.new.items
+        ≡ map (λ b. b.vtable) listeners.old.items }
+    ensures ways { map (λ b. way b) listeners.new.items ≡ map (λ b. way b) listeners.old.items }
     ensures notes { map (λ b. notes b) listeners.new.items
         ≡ map (λ b. notes b) listeners.old.items }
+    ensures by_way { AreByWay way rules notes listeners.new.items }
     ensures given { OnOk result ((w : ℕ) → w < vec_len listeners.new
         → rules_of_listener (map (λ b. rules b) listeners.new.items) w ≡ rules_for w list.items) }
 {

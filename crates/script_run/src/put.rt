@@ -34,6 +34,7 @@ pub fn put_bytes<K: Sink>(sink: &mut K, bytes: &[u8]) -> Result<(), Halt>
         (K.written sink.new)) }
     ensures no_fewer_faults { K.faults sink.old ≤ K.faults sink.new }
     ensures cause { IsErrOf result Halt.Write → HasRisen (K.faults sink.old) (K.faults sink.new) }
+    ensures failures_told { ¬ IsErrOf result Halt.Write → K.faults sink.new ≡ K.faults sink.old }
 {
     halt_of(sink.put(bytes))
 }
@@ -45,6 +46,7 @@ pub fn put_lines<K: Sink>(sink: &mut K, text: &str) -> Result<(), Halt>
     ensures err { OnErr result (IsFrontWritten text.now (K.written sink.old) (K.written sink.new)) }
     ensures no_fewer_faults { K.faults sink.old ≤ K.faults sink.new }
     ensures cause { IsErrOf result Halt.Write → HasRisen (K.faults sink.old) (K.faults sink.new) }
+    ensures failures_told { ¬ IsErrOf result Halt.Write → K.faults sink.new ≡ K.faults sink.old }
 {
     for line in text.split_inclusive('\n') {
         match put_bytes(sink, line.as_bytes()) {
@@ -79,6 +81,7 @@ fn put_entry<K: Sink>(alloc: Global, sink: &mut K, entry: &EntryRef<'_>) -> Resu
         (K.written sink.new)) }
     ensures no_fewer_faults { K.faults sink.old ≤ K.faults sink.new }
     ensures cause { IsErrOf result Halt.Write → HasRisen (K.faults sink.old) (K.faults sink.new) }
+    ensures failures_told { ¬ IsErrOf result Halt.Write → K.faults sink.new ≡ K.faults sink.old }
 {
     match entry_line(alloc, entry) {
         Ok(Some(line)) => put_bytes(sink, line.as_str().as_bytes()),
@@ -101,6 +104,7 @@ pub(crate) fn put_entries<K: Sink>(
         (K.written sink.old) (K.written sink.new)) }
     ensures no_fewer_faults { K.faults sink.old ≤ K.faults sink.new }
     ensures cause { IsErrOf result Halt.Write → HasRisen (K.faults sink.old) (K.faults sink.new) }
+    ensures failures_told { ¬ IsErrOf result Halt.Write → K.faults sink.new ≡ K.faults sink.old }
 {
     for i in from..journal.len() {
         let Some(entry) = journal.get(i) else {

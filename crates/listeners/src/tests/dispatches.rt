@@ -3,7 +3,7 @@
 
 mod memory;
 
-ghost use Rattle.std.specs.Prelude.{◌≡◌, ◌+◌, ◌≤◌, ◌++◌, ◌∷◌, [], vec_len};
+ghost use Rattle.std.specs.Prelude.{◌≡◌, ◌+◌, ◌≤◌, ◌++◌, ◌∷◌, [], None, vec_len};
 ghost use Rattle.std.specs.Vec.{vec_capacity};
 ghost use Rattle.listeners.specs.Notes.{told_note};
 
@@ -225,6 +225,8 @@ struct Appender {
 }
 
 impl Listener for Appender {
+    ghost way = { λ _. None };
+
     ghost rules = { λ s. s.rules.items };
 
     ghost notes = { λ s. s.notes.items };

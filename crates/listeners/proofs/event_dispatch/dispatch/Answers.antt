@@ -1,10 +1,11 @@
 use Rattle.std.proofs.Common.{rules, refl, arith}
 use Rattle.std.proofs.lemmas.Grind.{common_steps}
-use Rattle.listeners.proofs.Dispatching.{progress_none, listeners_more, listeners_end, rules_kept}
+use Rattle.listeners.proofs.EventDispatch.{progress_none, listeners_more, listeners_end, rules_kept, kept}
+use Rattle.listeners.proofs.ListenerWays.{by_way_set}
 use Rattle.listeners.proofs.event_dispatch.dispatch.Goals as goal
 
 pub loop-number-init : goal.loop-number-init
-loop-number-init g c = record { len = search rules; rules = refl; progress = progress_none _ _ _ }
+loop-number-init g c = record { len = search rules; kinds = refl; ways = refl; by_way = λ h. h; rules = refl; progress = progress_none _ _ _ }
 
 pub returns-in-Err-clause-rules : goal.returns-in-Err-clause-rules
 returns-in-Err-clause-rules g c = rules_kept _ _ _ _ _ _ c.loop-number.invariant.rules c.index_mut-listener.ensures.value c.serve.ensures.rules
@@ -15,6 +16,18 @@ returns-in-Err-clause-dispatch g c = listeners_end _ _ _ _ _ _ _ _ _ _ _ _ c.loo
 pub loop-number-preserved : goal.loop-number-preserved
 loop-number-preserved g c = record {
   len = c.loop-number.invariant.len;
+  kinds = kept _ _ _ _ _ _ c.loop-number.invariant.kinds c.index_mut-listener.ensures.value c.serve.ensures.kind;
+  ways = kept _ _ _ _ _ _ c.loop-number.invariant.ways c.index_mut-listener.ensures.value c.serve.ensures.way;
+  by_way = λ h. by_way_set _ _ _ _ _ _ _ (grind (arith, common_steps)) c.index_mut-listener.ensures.value c.serve.ensures.by_way (c.loop-number.invariant.by_way h);
   rules = rules_kept _ _ _ _ _ _ c.loop-number.invariant.rules c.index_mut-listener.ensures.value c.serve.ensures.rules;
   progress = listeners_more _ _ _ _ _ _ _ _ _ _ _ c.loop-number.invariant.progress (grind (arith, common_steps)) c.index_mut-listener.ensures.value c.in-Ok.ensures.turn;
 }
+
+pub returns-in-Err-clause-kinds : goal.returns-in-Err-clause-kinds
+returns-in-Err-clause-kinds g c = kept _ _ _ _ _ _ c.loop-number.invariant.kinds c.index_mut-listener.ensures.value c.serve.ensures.kind
+
+pub returns-in-Err-clause-ways : goal.returns-in-Err-clause-ways
+returns-in-Err-clause-ways g c = kept _ _ _ _ _ _ c.loop-number.invariant.ways c.index_mut-listener.ensures.value c.serve.ensures.way
+
+pub returns-in-Err-clause-by_way : goal.returns-in-Err-clause-by_way
+returns-in-Err-clause-by_way g c h = by_way_set _ _ _ _ _ _ _ (grind (arith, common_steps)) c.index_mut-listener.ensures.value c.serve.ensures.by_way (c.loop-number.invariant.by_way h)

@@ -1,6 +1,6 @@
 use Rattle.std.proofs.Common.{◌∙◌, ◌<◌, length, sym, rules}
 use Rattle.std.proofs.lemmas.Bool.{ltb-true}
-use Rattle.listeners.proofs.Indexing.{times_read}
+use Rattle.listeners.proofs.RuleIndex.{times_read}
 use Rattle.listeners.proofs.index.has_times_left.Goals as goal
 
 pub returns-in-Some : goal.returns-in-Some

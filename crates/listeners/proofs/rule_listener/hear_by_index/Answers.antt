@@ -1,6 +1,6 @@
 use Rattle.std.proofs.Common.{◌∙◌, ℕ, ap}
 use Rattle.listeners.specs.Index.{places_at, count_at}
-use Rattle.listeners.proofs.Indexing.{empty_there, not_empty, hears_none, hears_some}
+use Rattle.listeners.proofs.RuleIndex.{empty_there, not_empty, hears_none, hears_some}
 use Rattle.listeners.proofs.rule_listener.hear_by_index.Goals as goal
 
 pub returns-then-is_empty-clause-index : goal.returns-then-is_empty-clause-index

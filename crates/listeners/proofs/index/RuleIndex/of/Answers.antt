@@ -1,5 +1,5 @@
 use Rattle.std.proofs.Common.{arith, rules}
-use Rattle.listeners.proofs.Indexing.{places_next}
+use Rattle.listeners.proofs.RuleIndex.{places_next}
 use Rattle.listeners.proofs.index.RuleIndex.of.Goals as goal
 
 pub loop-place-preserved : goal.loop-place-preserved

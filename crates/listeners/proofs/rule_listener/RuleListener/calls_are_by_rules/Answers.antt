@@ -1,4 +1,4 @@
-use Rattle.listeners.proofs.Holding.{made_by_rules}
+use Rattle.listeners.proofs.RuleListeners.{made_by_rules}
 use Rattle.listeners.proofs.rule_listener.RuleListener.calls_are_by_rules.Goals as goal
 
 pub returns : goal.returns

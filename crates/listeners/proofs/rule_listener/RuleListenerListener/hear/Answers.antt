@@ -1,7 +1,7 @@
 use Rattle.std.proofs.Common.{drop, arith}
 use Rattle.listeners.specs.Notes.{heard_of}
 use Rattle.listeners.specs.Coming.{notes_of}
-use Rattle.listeners.proofs.Holding.{holds_index, holds_heard, rest_whole}
+use Rattle.listeners.proofs.RuleListeners.{holds_index, holds_heard, rest_whole}
 use Rattle.listeners.proofs.rule_listener.RuleListenerListener.hear.Goals as goal
 
 pub invariant_of-self : goal.invariant_of-self

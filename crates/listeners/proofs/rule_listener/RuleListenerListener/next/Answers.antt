@@ -1,6 +1,7 @@
-use Rattle.std.proofs.Common.{rules, ◌≡◌, ◌<◌, length, get_or, sym}
+use Rattle.std.proofs.Common.{rules, ◌≡◌, ◌<◌, ◌∙◌, length, get_or, sym}
 use Rattle.listeners.specs.Coming.{notes_of}
-use Rattle.listeners.proofs.Holding.{holds_rested, next_is_none, past_end, rule_read, rule_inside, room_there, call_read, holds_after, next_after}
+use Rattle.listeners.proofs.RuleListeners.{holds_rested, next_is_none, past_end, rule_read, rule_inside, room_there, call_read, holds_after, next_after}
+use Rattle.listeners.proofs.NoteLists.{told_next}
 use Rattle.listeners.proofs.rule_listener.RuleListenerListener.next.Goals as goal
 
 pub invariant_of-self : goal.invariant_of-self
@@ -56,3 +57,9 @@ returns-clause-by_rules c =
     let called : c.in_ok-call.call ≡ get_or rule.calls c.self.inside.call c.in_ok-call.call = search rules in
     let call = call_read xs place c.self.inside.call rule c.in_ok-call.call read (rw read room) called in
     rw (← c.self.view_is, call) (sym (next_after xs (notes_of xs c.self.inside.history.items) c.self.inside.index due c.self.inside.at c.self.inside.call place within there c.self.invariant.1))
+
+pub returns-in_default-clause-by_way : goal.returns-in_default-clause-by_way
+returns-in_default-clause-by_way c = returns-in_default-clause-by_rules c ∙ sym (told_next _ _ _)
+
+pub returns-clause-by_way : goal.returns-clause-by_way
+returns-clause-by_way c = returns-clause-by_rules c ∙ sym (told_next _ _ _)

@@ -1,7 +1,7 @@
 use Rattle.std.proofs.Common.{refl, arith, inl}
 use Rattle.std.proofs.lemmas.Grind.{common_steps}
 use Rattle.std.proofs.lemmas.Result.{on_ok_weaker}
-use Rattle.script_run.proofs.Lining.{called_of, halted_call}
+use Rattle.script_run.proofs.ScriptLines.{called_of, halted_call}
 use Rattle.script_run.proofs.run.ScriptRun.call_and_print.Goals as goal
 
 pub returns-in_default-clause-err : goal.returns-in_default-clause-err

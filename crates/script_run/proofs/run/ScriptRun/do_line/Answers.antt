@@ -1,5 +1,5 @@
 use Rattle.std.proofs.Common.{refl, inl}
-use Rattle.script_run.proofs.Lining.{call_halted, called_ran, turn_line_ran, work_line_ran}
+use Rattle.script_run.proofs.ScriptLines.{call_halted, called_ran, turn_line_ran, work_line_ran}
 use Rattle.script_run.proofs.PartsInRow.{halt_none}
 use Rattle.script_run.proofs.run.ScriptRun.do_line.Goals as goal
 

@@ -3,7 +3,7 @@ use Rattle.mse_engine.specs.State.{State}
 use Rattle.mse_engine.specs.Standing.{IsStanding, Stands}
 use Rattle.mse_engine.specs.Work.{is_turn_due}
 use Rattle.script_run.specs.PlayedParts.{IsSilentDrain}
-use Rattle.script_run.proofs.Draining.{did_turn, drains_then, drains_turn, still_idle}
+use Rattle.script_run.proofs.DrainParts.{did_turn, drains_then, drains_turn, still_idle}
 use Rattle.script_run.proofs.run.ScriptRun.drain_quietly.Goals as goal
 
 pub returns-then-not-due-clause-nothing_left : goal.returns-then-not-due-clause-nothing_left

@@ -1,5 +1,5 @@
 use Rattle.std.proofs.Common.{refl, arith}
-use Rattle.script_run.proofs.Draining.{order_then_ran, order_then_stop}
+use Rattle.script_run.proofs.DrainParts.{order_then_ran, order_then_stop}
 use Rattle.script_run.proofs.run.ScriptRun.finish_work.Goals as goal
 
 pub turn_all-requires : goal.turn_all-requires

@@ -3,7 +3,7 @@ use Rattle.std.proofs.lemmas.List.{length-map}
 use Rattle.std.proofs.lemmas.Grind.{common_steps}
 use Rattle.listeners.specs.declared.event_dispatch.DispatchFault.{DispatchFault}
 use Rattle.listeners.specs.declared.event_dispatch.DispatchFault.TheVariants.{OutOfMemory}
-use Rattle.script_run.proofs.Firing.{fired_alone, fired_half, fired_ran, fired_short, fired_stopped, nothing_fired}
+use Rattle.script_run.proofs.FiredEvents.{fired_alone, fired_half, fired_ran, fired_short, fired_stopped, nothing_fired}
 use Rattle.script_run.proofs.PartsInRow.{halt_none, ran_none}
 use Rattle.script_run.proofs.run.ScriptRun.fire.Goals as goal
 

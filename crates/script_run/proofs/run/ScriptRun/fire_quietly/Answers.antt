@@ -1,5 +1,5 @@
 use Rattle.std.proofs.Common.{[], refl}
-use Rattle.script_run.proofs.Draining.{calm_then, drains_event, drains_none, drains_then}
+use Rattle.script_run.proofs.DrainParts.{calm_then, drains_event, drains_none, drains_then}
 use Rattle.script_run.proofs.run.ScriptRun.fire_quietly.Goals as goal
 
 pub firing-init : goal.firing-init

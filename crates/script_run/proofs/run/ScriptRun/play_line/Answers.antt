@@ -2,7 +2,7 @@ use Rattle.std.proofs.Common.{arith, vec_len}
 use Rattle.std.proofs.lemmas.List.{length-map}
 use Rattle.std.proofs.lemmas.Grind.{common_steps}
 use Rattle.script_run.specs.Lines.{limits}
-use Rattle.script_run.proofs.Lining.{line_by, line_unopened}
+use Rattle.script_run.proofs.ScriptLines.{line_by, line_unopened}
 use Rattle.script_run.proofs.run.ScriptRun.play_line.Goals as goal
 
 pub returns-in-Ok-clause-played : goal.returns-in-Ok-clause-played

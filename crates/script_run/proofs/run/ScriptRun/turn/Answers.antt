@@ -1,7 +1,7 @@
 use Rattle.std.proofs.Common.{◌≡◌, refl}
 use Rattle.mse_engine.specs.Work.{after_element_turn}
-use Rattle.script_run.proofs.Draining.{turn_did}
-use Rattle.script_run.proofs.Stepping.{idle_none, idle_same, turned_goes}
+use Rattle.script_run.proofs.DrainParts.{turn_did}
+use Rattle.script_run.proofs.RunSteps.{idle_none, idle_same, turned_goes}
 use Rattle.script_run.proofs.run.ScriptRun.turn.Goals as goal
 
 pub returns-in-Ok-Idle-clause-ok : goal.returns-in-Ok-Idle-clause-ok

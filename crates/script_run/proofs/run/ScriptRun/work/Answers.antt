@@ -1,6 +1,6 @@
 use Rattle.std.proofs.Common.{◌≡◌, refl}
 use Rattle.mse_engine.specs.Work.{after_work}
-use Rattle.script_run.proofs.Stepping.{idle_none, idle_same, worked_goes}
+use Rattle.script_run.proofs.RunSteps.{idle_none, idle_same, worked_goes}
 use Rattle.script_run.proofs.run.ScriptRun.work.Goals as goal
 
 pub returns-in-Ok-Idle-clause-ok : goal.returns-in-Ok-Idle-clause-ok

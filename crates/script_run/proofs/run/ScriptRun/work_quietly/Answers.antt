@@ -4,7 +4,7 @@ use Rattle.mse_engine.specs.State.{State}
 use Rattle.mse_engine.specs.Standing.{IsStanding, Stands}
 use Rattle.mse_engine.specs.Work.{running_in}
 use Rattle.script_run.specs.PlayedParts.{IsSilentDrain}
-use Rattle.script_run.proofs.Draining.{did_work, drains_none, drains_then, drains_work}
+use Rattle.script_run.proofs.DrainParts.{did_work, drains_none, drains_then, drains_work}
 use Rattle.script_run.proofs.run.ScriptRun.work_quietly.Goals as goal
 
 pub working-init : goal.working-init

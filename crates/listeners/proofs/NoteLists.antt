@@ -7,7 +7,9 @@ use Rattle.mse_calls.specs.declared.calls.Call.{Call}
 use Rattle.mse_calls.specs.declared.events.Event.{Event}
 use Rattle.listeners.specs.declared.listener.Note.{Note}
 use Rattle.listeners.specs.declared.listener.Note.TheVariants.{Heard, Made, Told, Rested}
+use Rattle.mse_calls.specs.declared.rules.Rule.{Rule}
 use Rattle.listeners.specs.Notes.{told_note, heard_of, calls_made}
+use Rattle.listeners.specs.RuleCalls.{next_call}
 
 pub heard_append : (xs ys : List Note) → heard_of (xs ++ ys) ≡ heard_of xs ++ heard_of ys
 heard_append [] ys = refl
@@ -52,3 +54,15 @@ made_heard notes told call =
 pub made_made : (notes : List Note) (told : Option Answer) (call : Call) → calls_made (notes ++ (told_note told ++ Made call ∷ [])) ≡ calls_made notes ++ call ∷ []
 made_made notes told call =
     made_append notes (told_note told ++ Made call ∷ []) ∙ ap (λ (cs : List Call). calls_made notes ++ cs) (told_made told (Made call ∷ []))
+
+-- what a listener by rules answers does not depend on what it is told
+pub told_next : (rules : List Rule) (notes : List Note) (told : Option Answer) → next_call rules (notes ++ told_note told) ≡ next_call rules notes
+unfolding next_call
+told_next rules notes None = rw append-nil refl
+told_next rules notes (Some answer) = rw (heard, made) refl
+  where
+    heard : heard_of (notes ++ Told answer ∷ []) ≡ heard_of notes
+    heard = heard_append notes (Told answer ∷ []) ∙ append-nil (heard_of notes)
+
+    made : calls_made (notes ++ Told answer ∷ []) ≡ calls_made notes
+    made = made_append notes (Told answer ∷ []) ∙ append-nil (calls_made notes)

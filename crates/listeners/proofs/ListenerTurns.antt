@@ -181,14 +181,17 @@ turn_unasked blobs event w r n0 n1 n2 p q = record {
 
 -- the call was not made
 call_unmade : (blobs : List (List ℕ)) (event : Event) (w : ℕ) (r0 r1 r2 : RunView) (n0 n1 n2 : List Note) (call : Call) (made : ℕ)
-    → IsServing blobs event (turn_view w r0 n0) (turn_view w r1 n1) (record { call_count = made; next_call = Some call }) → n2 ≡ n1 → IsAfterCalls blobs r1 r2 []
+    → IsServing blobs event (turn_view w r0 n0) (turn_view w r1 n1) (record { call_count = made; next_call = Some call }) → made ≢ 1000 → r1.left ≢ 0 → n2 ≡ n1 → IsAfterCalls blobs r1 r2 []
     → IsServed blobs event (turn_view w r0 n0) (turn_view w r2 n2) (Err OutOfMemory)
-call_unmade blobs event w r0 r1 r2 n0 n1 n2 call made s same stays = record {
+call_unmade blobs event w r0 r1 r2 n0 n1 n2 call made s ne some same stays = record {
   entries = s.entries;
   calls = subst (λ (x : List Entry). IsAfterCalls blobs r0 r2 x) (append-nil s.entries) (makes_then blobs r0 r1 r2 s.entries [] s.calls stays);
   own = s.own;
   few = omega (arith, s.count, s.few);
-  notes = inr (inr (inr (call, same ∙ s.notes)));
+  notes = inr (inr (inr (
+    (omega (arith, count_own w s.entries s.own, s.count, s.few, ne), omega (arith, stays.left, some)),
+    (call, same ∙ s.notes),
+  )));
 }
 
 -- the answer was not told
@@ -212,12 +215,12 @@ answer_untold blobs event w r0 r1 r2 n0 n1 n2 call made s ne same answer m =
     }
 
 pub turn_unmade : (blobs : List (List ℕ)) (event : Event) (w : ℕ) (r0 r1 r2 : RunView) (n0 n1 n2 : List Note) (call : Call) (made : ℕ) (memory : NoMemory)
-    → IsServing blobs event (turn_view w r0 n0) (turn_view w r1 n1) (record { call_count = made; next_call = Some call }) → made ≢ 1000
+    → IsServing blobs event (turn_view w r0 n0) (turn_view w r1 n1) (record { call_count = made; next_call = Some call }) → made ≢ 1000 → r1.left ≢ 0
     → IsCallTurn blobs call (turn_view w r1 n1) (turn_view w r2 n2) (Err memory)
     → IsServed blobs event (turn_view w r0 n0) (turn_view w r2 n2) (Err OutOfMemory)
-turn_unmade blobs event w r0 r1 r2 n0 n1 n2 call made memory s ne c =
+turn_unmade blobs event w r0 r1 r2 n0 n1 n2 call made memory s ne some c =
     elim c.1 [
-      | inl stays ↦ call_unmade blobs event w r0 r1 r2 n0 n1 n2 call made s c.0 stays
+      | inl stays ↦ call_unmade blobs event w r0 r1 r2 n0 n1 n2 call made s ne some c.0 stays
       | inr m ↦ answer_untold blobs event w r0 r1 r2 n0 n1 n2 call made s ne c.0 m.0 m.1
     ]
 

@@ -1,4 +1,4 @@
--- Dispatches that were cut, and limits that were spent.
+-- Dispatches that were cut, and calls that are left.
 use Rattle.std.proofs.Common.{◌≡◌, ℕ, suc, List, [], ◌∷◌, ◌++◌, length, refl, sym, ◌∙◌, ap, append_assoc, inl, inr}
 use Rattle.std.specs.Prelude.{Option, Some, None}
 use Rattle.mse_calls.specs.AnswerAndState.{AnswerAndState}
@@ -10,7 +10,7 @@ use Rattle.call_script.specs.declared.script.StepLine.TheVariants as step
 use Rattle.listeners.specs.declared.listener.Note.{Note}
 use Rattle.listeners.specs.declared.event_dispatch.DispatchFault.{DispatchFault}
 use Rattle.listeners.specs.declared.event_dispatch.DispatchFault.TheVariants as fault
-use Rattle.listeners.specs.Dispatch.{AreCallsInTurn, IsFailedDispatch, IsFault, TurnEnd, dispatch_end, turn_end_of}
+use Rattle.listeners.specs.Dispatch.{AreCallsInTurn, IsFailedDispatch, dispatch_end}
 use Rattle.mse_engine.specs.State.{State}
 use Rattle.mse_engine.specs.Run.{entry_meaning, fire_entries, entries_if}
 use Rattle.mse_engine.specs.Work.{after_element_turn, after_work, fire_result}
@@ -22,83 +22,46 @@ use Rattle.script_run.specs.DrainSteps.{AreInDrainOrder}
 use Rattle.script_run.specs.Lines.{IsLineFront, own_of}
 use Rattle.script_run.specs.PlayedParts.{IsDispatchCut, IsHeardUpTo, IsOverLimit}
 use Rattle.script_run.specs.NoteHistory.{IsAllHeard}
-use Rattle.script_run.specs.Turns.{AreInTurn, IsSpent, IsSpentInLine, steps_in}
-use Rattle.script_run.proofs.Telling.{cut_then}
+use Rattle.script_run.specs.Turns.{AreInTurn, CallsLeft, HasCallsLeft, HasCallsLeftInLine, steps_in}
+use Rattle.script_run.proofs.JournalNotes.{cut_then}
 
 -- ---- a dispatch that was cut
 
--- a fault, but for the number of calls that are left
-fault_alone : (f : DispatchFault) (event : Event) (calls : List Entry) (left w : ℕ) (n0 n1 : List (List Note))
-    → IsFault f event (turn_end_of w (dispatch_end calls left n0 n1)) → IsFault f event (turn_end_of w (dispatch_end calls 0 n0 n1))
-fault_alone fault.OutOfMemory event calls left w n0 n1 p = p
-fault_alone (fault.CallBudget k) event calls left w n0 n1 p = p
-fault_alone fault.TaskBudget event calls left w n0 n1 p = (refl, p.1, p.2)
-
-pub cut_of : (f : DispatchFault) (event : Event) (calls : List Entry) (left : ℕ) (n0 n1 : List (List Note)) → AreCallsInTurn 0 (length n0) calls
-    → length n1 ≡ length n0 → IsAllHeard [] n0 n0 → IsFailedDispatch event (dispatch_end calls left n0 n1) f → IsDispatchCut f (entry.Fired event ∷ calls) n0 n1
-cut_of f event calls left n0 n1 turns count heard p = record {
+pub cut_of : (calls_left : CallsLeft) (f : DispatchFault) (event : Event) (calls : List Entry) (left : ℕ) (n0 n1 : List (List Note)) → AreCallsInTurn 0 (length n0) calls
+    → calls_left (entry.Fired event ∷ calls) left → length n1 ≡ length n0 → IsAllHeard [] n0 n0 → IsFailedDispatch event (dispatch_end calls left n0 n1) f
+    → IsDispatchCut calls_left f (entry.Fired event ∷ calls) n0 n1
+cut_of calls_left f event calls left n0 n1 turns left_is count heard p = record {
   before = [];
   event = event;
   calls = calls;
+  left = left;
   middle = n0;
   entries_are = refl;
+  left_is = left_is;
   heard = heard;
   in_turn = turns;
   count = count;
-  end = record {
-    listener = p.listener;
-    within = p.within;
-    served = p.served;
-    behind = p.behind;
-    ending = fault_alone f event calls left p.listener n0 n1 p.ending;
-  };
+  end = p;
 }
-
--- a call that was not made is one that want of memory may leave
-fault_as_memory : (f : DispatchFault) (event : Event) (end : TurnEnd) → IsFault f event end → IsFault fault.OutOfMemory event end
-fault_as_memory fault.OutOfMemory event end p = p
-fault_as_memory (fault.CallBudget k) event end p = inr (inr (inr p.2))
-fault_as_memory fault.TaskBudget event end p = inr (inr (inr p.2))
-
-pub cut_as_memory : (f : DispatchFault) (es : List Entry) (n0 n1 : List (List Note)) → IsDispatchCut f es n0 n1 → IsDispatchCut fault.OutOfMemory es n0 n1
-cut_as_memory f es n0 n1 p = record {
-  before = p.before;
-  event = p.event;
-  calls = p.calls;
-  middle = p.middle;
-  entries_are = p.entries_are;
-  heard = p.heard;
-  in_turn = p.in_turn;
-  count = p.count;
-  end = record {
-    listener = p.end.listener;
-    within = p.end.within;
-    served = p.end.served;
-    behind = p.end.behind;
-    ending = fault_as_memory f p.event (turn_end_of p.end.listener (dispatch_end p.calls 0 p.middle n1)) p.end.ending;
-  };
-}
-
--- so is a dispatch that a limit cut
-pub over_as_memory : (spent : List Entry → Type 0) (stop : Stop) (es : List Entry) (n0 n1 : List (List Note)) → IsOverLimit spent stop es n0 n1
-    → IsDispatchCut fault.OutOfMemory es n0 n1
-over_as_memory spent (CallBudget k) es n0 n1 p = cut_as_memory (fault.CallBudget k) es n0 n1 p
-over_as_memory spent TaskBudget es n0 n1 p = cut_as_memory fault.TaskBudget es n0 n1 p.1
-over_as_memory spent (Halted h) es n0 n1 p = absurd p
 
 -- ---- behind other entries
 
--- what is spent in a part is spent in the whole, by `more`
-pub over_then : (spent whole : List Entry → Type 0) (stop : Stop) (count : ℕ) (xs ys : List Entry) (n0 n1 n2 : List (List Note)) → (spent ys → whole (xs ++ ys))
-    → IsAllHeard xs n0 n1 → AreInTurn count None ys → IsOverLimit spent stop ys n1 n2 → IsOverLimit whole stop (xs ++ ys) n0 n2
-over_then spent whole (CallBudget k) count xs ys n0 n1 n2 more p turns q = cut_then (fault.CallBudget k) count xs ys n0 n1 n2 p q turns
-over_then spent whole TaskBudget count xs ys n0 n1 n2 more p turns q = (more q.0, cut_then fault.TaskBudget count xs ys n0 n1 n2 p q.1 turns)
-over_then spent whole (Halted h) count xs ys n0 n1 n2 more p turns q = absurd q
+-- what is left behind a part is left behind the whole, by `more`
+pub over_then : (part whole : CallsLeft) (stop : Stop) (count : ℕ) (xs ys : List Entry) (n0 n1 n2 : List (List Note)) → ((left : ℕ) → part ys left → whole (xs ++ ys) left)
+    → IsAllHeard xs n0 n1 → AreInTurn count None ys → IsOverLimit part stop ys n1 n2 → IsOverLimit whole stop (xs ++ ys) n0 n2
+over_then part whole (CallBudget k) count xs ys n0 n1 n2 more p turns q = cut_then part whole (fault.CallBudget k) count xs ys n0 n1 n2 more p q turns
+over_then part whole TaskBudget count xs ys n0 n1 n2 more p turns q = cut_then part whole fault.TaskBudget count xs ys n0 n1 n2 more p q turns
+over_then part whole (Halted h) count xs ys n0 n1 n2 more p turns q = absurd q
 
 -- each heard each event, where memory or the sink was wanting
-pub heard_to_all : (spent : List Entry → Type 0) (h : Halt) (es : List Entry) (n0 n1 : List (List Note)) → IsAllHeard es n0 n1 → IsHeardUpTo spent h es n0 n1
-heard_to_all spent halt.Memory es n0 n1 p = inl p
-heard_to_all spent halt.Write es n0 n1 p = inl p
+pub heard_to_all : (calls_left : CallsLeft) (h : Halt) (es : List Entry) (n0 n1 : List (List Note)) → IsAllHeard es n0 n1 → IsHeardUpTo calls_left h es n0 n1
+heard_to_all calls_left halt.Memory es n0 n1 p = inl p
+heard_to_all calls_left halt.Write es n0 n1 p = inl p
+
+-- or the dispatch of the last ended at a limit
+pub heard_to_limit : (calls_left : CallsLeft) (stop : Stop) (h : Halt) (es : List Entry) (n0 n1 : List (List Note)) → IsOverLimit calls_left stop es n0 n1 → IsHeardUpTo calls_left h es n0 n1
+heard_to_limit calls_left stop halt.Memory es n0 n1 p = inr (inr (stop, p))
+heard_to_limit calls_left stop halt.Write es n0 n1 p = inr (stop, p)
 
 -- ---- lines
 
@@ -148,13 +111,13 @@ no_step_in_line blobs st step.Element es (inl e) = ap steps_in e
 no_step_in_line blobs st step.Element es (inr e) = by_own es _ e (no_step_turned (after_element_turn st))
 no_step_in_line blobs st step.Drain es h = no_step_in_order blobs st es h
 
--- what was spent behind a number was spent in its line
-pub spent_line : (limit n : ℕ) (es : List Entry) → steps_in es ≡ 0 → IsSpent limit es → IsSpentInLine limit (entry.Step n ∷ es)
-spent_line limit n es one e = record { front = []; number = n; part = es; entries_are = refl; one_line = one; calls = e }
+-- what is left behind a number is left in its line
+pub left_in_line : (limit n : ℕ) (es : List Entry) → steps_in es ≡ 0 → (left : ℕ) → HasCallsLeft limit es left → HasCallsLeftInLine limit (entry.Step n ∷ es) left
+left_in_line limit n es one left e = record { front = []; number = n; part = es; entries_are = refl; one_line = one; calls = e }
 
 -- lines before it change nothing
-pub spent_behind : (limit : ℕ) (xs ys : List Entry) → IsSpentInLine limit ys → IsSpentInLine limit (xs ++ ys)
-spent_behind limit xs ys p = record {
+pub left_behind : (limit : ℕ) (xs ys : List Entry) (left : ℕ) → HasCallsLeftInLine limit ys left → HasCallsLeftInLine limit (xs ++ ys) left
+left_behind limit xs ys left p = record {
   front = xs ++ p.front;
   number = p.number;
   part = p.part;

@@ -29,14 +29,14 @@ use Rattle.script_run.specs.PlayedParts.{IsCallHalted, IsCallMade, IsPlayed, IsP
 use Rattle.script_run.specs.RunStates.{printed_run, run_at}
 use Rattle.script_run.specs.Text.{lines_of}
 use Rattle.script_run.specs.NoteHistory.{IsAllHeard}
-use Rattle.script_run.specs.Turns.{AreInTurn, IsSpent, IsSpentInLine, calls_in, steps_in}
+use Rattle.script_run.specs.Turns.{AreInTurn, HasCallsLeft, HasCallsLeftInLine, calls_in, steps_in}
 use Rattle.script_run.specs.Writes.{IsWritten, IsFrontWritten}
-use Rattle.script_run.proofs.Stepping.{done_one}
-use Rattle.script_run.proofs.Telling.{heard_silence}
-use Rattle.script_run.proofs.Writing.{wrote_none}
-use Rattle.script_run.proofs.Cutting.{heard_to_all, no_step_in_line, spent_line}
+use Rattle.script_run.proofs.RunSteps.{done_one}
+use Rattle.script_run.proofs.JournalNotes.{heard_silence}
+use Rattle.script_run.proofs.PutLines.{wrote_none}
+use Rattle.script_run.proofs.CutDispatches.{heard_to_all, left_in_line, no_step_in_line}
 use Rattle.script_run.proofs.PartsInRow.{halt_none, played_none, ran_none, stopped_then}
-use Rattle.script_run.proofs.Draining.{turn_ran, work_ran}
+use Rattle.script_run.proofs.DrainParts.{turn_ran, work_ran}
 
 -- ---- a call
 
@@ -74,7 +74,7 @@ call_halted blobs call halt a b t0 t1 n (inr p) =
         turns = tt;
         stopped = (
           rw (append-nil (line_text (entry.Script call p.answer))) p.wrote,
-          heard_to_all (IsSpent a.left) halt (entry.Script call p.answer ∷ []) n n (heard_silence (entry.Script call p.answer ∷ []) n (λ w. refl)),
+          heard_to_all (HasCallsLeft a.left) halt (entry.Script call p.answer ∷ []) n n (heard_silence (entry.Script call p.answer ∷ []) n (λ w. refl)),
         );
       };
       left = omega (arith, left);
@@ -131,7 +131,7 @@ line_played blobs limits n line a b t0 t1 n0 n1 sound count p =
 pub line_stopped : (blobs : List (List ℕ)) (limits : Limits) (n : ℕ) (line : StepLine) (stop : Stop) (a b : RunView) (t0 t1 : Option (List ℕ)) (n0 n1 : List (List Note))
     → IsStanding a.engine → IsSoundEngine a.engine → limits.count ≡ length n0
     → IsPlayedInLineUpTo blobs (λ st part. IsLineFront blobs st line part) stop (run_at (opened n limits.limit a) t0 n0) (run_at b t1 n1)
-    → IsPlayedUpTo blobs (part_front (IsNumberedLineBegun (play_inputs blobs limits) n line) (IsSpentInLine limits.limit)) stop (run_at a t0 n0) (run_at b t1 n1)
+    → IsPlayedUpTo blobs (part_front (IsNumberedLineBegun (play_inputs blobs limits) n line) (HasCallsLeftInLine limits.limit)) stop (run_at a t0 n0) (run_at b t1 n1)
 line_stopped blobs limits n line stop a b t0 t1 n0 n1 standing sound count p =
     let es : List Entry = p.played.entries in
     let few : calls_in es ≤ limits.limit = within_limit limits.limit b.left (calls_in es) p.left in
@@ -145,15 +145,15 @@ line_stopped blobs limits n line stop a b t0 t1 n0 n1 standing sound count p =
         holds = λ st h. inr (es, refl, record { begins = p.played.grew.holds st h; within = record { few = few; turns = turns } });
       };
       turns = p.played.turns;
-      stopped = stopped_then (IsSpent limits.limit) (IsSpentInLine limits.limit) stop (length n0) (entry.Step n ∷ []) es
-          (run_at a t0 n0) (run_at (opened n limits.limit a) t0 n0) (run_at b t1 n1) (spent_line limits.limit n es one)
+      stopped = stopped_then (HasCallsLeft limits.limit) (HasCallsLeftInLine limits.limit) stop (length n0) (entry.Step n ∷ []) es
+          (run_at a t0 n0) (run_at (opened n limits.limit a) t0 n0) (run_at b t1 n1) (left_in_line limits.limit n es one)
           (wrote_none t0) (heard_silence (entry.Step n ∷ []) n0 (λ w. refl)) p.played.turns p.played.stopped;
     }
 
 -- a line that did not begin
 pub line_unopened : (blobs : List (List ℕ)) (limits : Limits) (n : ℕ) (line : StepLine) (halt : Halt) (a : RunView) (t : Option (List ℕ)) (notes : List (List Note))
-    → IsPlayedUpTo blobs (part_front (IsNumberedLineBegun (play_inputs blobs limits) n line) (IsSpentInLine limits.limit)) (Halted halt) (run_at a t notes) (run_at a t notes)
-line_unopened blobs limits n line halt a t notes = played_none blobs (IsSpentInLine limits.limit) (IsNumberedLineBegun (play_inputs blobs limits) n line) halt (run_at a t notes) (λ st h. inl refl)
+    → IsPlayedUpTo blobs (part_front (IsNumberedLineBegun (play_inputs blobs limits) n line) (HasCallsLeftInLine limits.limit)) (Halted halt) (run_at a t notes) (run_at a t notes)
+line_unopened blobs limits n line halt a t notes = played_none blobs (HasCallsLeftInLine limits.limit) (IsNumberedLineBegun (play_inputs blobs limits) n line) halt (run_at a t notes) (λ st h. inl refl)
 
 -- ---- a call as it is made
 
@@ -173,7 +173,7 @@ called_half_of blobs call from a b t0 t1 e p wrote = inr (record { answer = p.0;
 pub line_by : (blobs : List (List ℕ)) (limits : Limits) (n : ℕ) (line : StepLine) (a b : RunView) (t0 t1 : Option (List ℕ)) (n0 n1 : List (List Note)) (result : Result (Unit {0}) Stop)
     → IsStanding a.engine → IsSoundEngine a.engine → limits.count ≡ length n0
     → IsPlayedInLineBy (line_part blobs line) (run_at (opened n limits.limit a) t0 n0) (run_at b t1 n1) result
-    → IsPlayedBy (IsSpentInLine limits.limit) (numbered_line_part (play_inputs blobs limits) n line) (run_at a t0 n0) (run_at b t1 n1) result
+    → IsPlayedBy (HasCallsLeftInLine limits.limit) (numbered_line_part (play_inputs blobs limits) n line) (run_at a t0 n0) (run_at b t1 n1) result
 line_by blobs limits n line a b t0 t1 n0 n1 (Ok u) standing sound count p = line_played blobs limits n line a b t0 t1 n0 n1 sound count p
 line_by blobs limits n line a b t0 t1 n0 n1 (Err stop) standing sound count p = line_stopped blobs limits n line stop a b t0 t1 n0 n1 standing sound count p
 

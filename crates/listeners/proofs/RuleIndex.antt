@@ -15,7 +15,7 @@ use Rattle.listeners.specs.Events.{event_number, is_same}
 use Rattle.listeners.specs.RuleCalls.{times_heard, is_answering}
 use Rattle.listeners.specs.Index.{is_on, places_from, places_of, places_or_none, places_at, count_at, bounded_count, IsIndexOf}
 use Rattle.listeners.specs.Coming.{no_rule, rule_at, rules_at}
-use Rattle.listeners.proofs.Hearing.{times_more, AreDutiesAfter}
+use Rattle.listeners.proofs.HeardEvents.{times_more, AreDutiesAfter}
 
 -- ---- the places of one rule more
 places_append : (number i : ℕ) (xs : List Rule) (rule : Rule) → places_from number i (xs ++ rule ∷ []) ≡ places_from number i xs ++ (if is_on number rule then (i + length xs) ∷ [] else [])

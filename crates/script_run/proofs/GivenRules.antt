@@ -56,3 +56,8 @@ given_more rules all left own others xs w new lt has is rest p = record {
   ]);
   behind = λ k le. let ne : k ≢ w = omega (arith, le) in rw rest (others_keep w k left ne ∙ p.behind k (omega (arith, le)));
 }
+
+-- and all that it keeps
+pub all_kept : {X A : Type 0} (f : X → A) (w : ℕ) (xs0 xs : List X) (old new : X)
+    → map f xs ≡ map f xs0 → old ≡ get_or xs w old → f new ≡ f old → map f (slice_set xs w new) ≡ map f xs0
+all_kept f w xs0 xs old new same is e = map-set_same f xs w new old (e ∙ ap f is) ∙ same

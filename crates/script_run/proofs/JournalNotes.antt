@@ -9,10 +9,10 @@ use Rattle.listeners.specs.declared.listener.Note.TheVariants.{Heard, Rested}
 use Rattle.listeners.specs.declared.event_dispatch.DispatchFault.{DispatchFault}
 use Rattle.listeners.specs.Notes.{call_notes, entry_notes, event_notes}
 use Rattle.listeners.specs.Dispatch.{notes_at}
-use Rattle.script_run.specs.Turns.{AreInTurn}
+use Rattle.script_run.specs.Turns.{AreInTurn, CallsLeft}
 use Rattle.script_run.specs.NoteHistory.{entries_until_event, note_history, IsAllHeard}
 use Rattle.script_run.specs.PlayedParts.{IsDispatchCut}
-use Rattle.script_run.proofs.Turning.{turns_front}
+use Rattle.script_run.proofs.ListenerTurns.{turns_front}
 
 -- before the first event no listener calls
 pub fresh_turns : (count : ℕ) (es : List Entry) (w : ℕ) → AreInTurn count None es → call_notes w (entries_until_event es) ≡ []
@@ -65,14 +65,16 @@ heard_then count xs ys n0 n1 n2 p q turns = record {
 }
 
 -- a dispatch that was cut, behind others
-pub cut_then : (fault : DispatchFault) (count : ℕ) (xs ys : List Entry) (n0 n1 n2 : List (List Note)) → IsAllHeard xs n0 n1
-    → IsDispatchCut fault ys n1 n2 → AreInTurn count None ys → IsDispatchCut fault (xs ++ ys) n0 n2
-cut_then fault count xs ys n0 n1 n2 p q turns = record {
+pub cut_then : (part whole : CallsLeft) (fault : DispatchFault) (count : ℕ) (xs ys : List Entry) (n0 n1 n2 : List (List Note)) → ((left : ℕ) → part ys left → whole (xs ++ ys) left)
+    → IsAllHeard xs n0 n1 → IsDispatchCut part fault ys n1 n2 → AreInTurn count None ys → IsDispatchCut whole fault (xs ++ ys) n0 n2
+cut_then part whole fault count xs ys n0 n1 n2 more p q turns = record {
   before = xs ++ q.before;
   event = q.event;
   calls = q.calls;
+  left = q.left;
   middle = q.middle;
   entries_are = ap (λ (x : List Entry). xs ++ x) q.entries_are ∙ sym (append_assoc xs q.before (Fired q.event ∷ q.calls));
+  left_is = more q.left q.left_is;
   heard = heard_then count xs q.before n0 n1 q.middle p q.heard (turns_front count None q.before (Fired q.event ∷ q.calls) (rw q.entries_are at turns));
   in_turn = q.in_turn;
   count = q.count;

@@ -19,7 +19,7 @@ use Rattle.listeners.specs.Notes.{entry_notes, is_call_of, call_notes, call_coun
 use Rattle.listeners.specs.declared.event_dispatch.DispatchFault.TheVariants.{OutOfMemory, CallBudget, TaskBudget}
 use Rattle.listeners.specs.Dispatch.{AreCallsInTurn, IsAfterCalls, TurnEnd, IsFault, IsServed, IsDispatch, AreServedBelow, AreUnheardFrom, notes_at}
 use Rattle.listeners.specs.Views.{RunView, DispatchView, turn_view, dispatch_view}
-use Rattle.listeners.proofs.Serving.{AreCallsInTurn-induction, makes_none, makes_then}
+use Rattle.listeners.proofs.ListenerTurns.{AreCallsInTurn-induction, makes_none, makes_then}
 
 -- the listeners below `w` were served, and the others heard nothing
 pub record IsDispatchUpTo (blobs : List (List ℕ)) (event : Event) (w : ℕ) (old new : DispatchView) : Type 0 where
@@ -216,3 +216,8 @@ listeners_end notes blobs event w r0 r1 r2 xs0 xs old new fault p lt is t =
 pub rules_kept : {X : Type 0} (rules : X → List Rule) (w : ℕ) (xs0 xs : List X) (old new : X)
     → map rules xs ≡ map rules xs0 → old ≡ get_or xs w old → rules new ≡ rules old → map rules (slice_set xs w new) ≡ map rules xs0
 rules_kept rules w xs0 xs old new same is e = map-set_same rules xs w new old (e ∙ ap rules is) ∙ same
+
+-- and all that it keeps
+pub kept : {X A : Type 0} (f : X → A) (w : ℕ) (xs0 xs : List X) (old new : X)
+    → map f xs ≡ map f xs0 → old ≡ get_or xs w old → f new ≡ f old → map f (slice_set xs w new) ≡ map f xs0
+kept f w xs0 xs old new same is e = map-set_same f xs w new old (e ∙ ap f is) ∙ same

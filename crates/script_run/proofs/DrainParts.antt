@@ -22,13 +22,13 @@ use Rattle.script_run.specs.RunParts.{EntryRelation}
 use Rattle.script_run.specs.PlayedParts.{IsSilentDrain, IsPlayedInLine, IsPlayedInLineUpTo, IsOwnStep, IsOwnStepIf}
 use Rattle.script_run.specs.RunStates.{RunState, run_at}
 use Rattle.script_run.specs.Turns.{AreInTurn}
-use Rattle.script_run.proofs.Writing.{wrote_none}
-use Rattle.script_run.proofs.Turning.{calls_in-append}
-use Rattle.script_run.proofs.Telling.{heard_silence}
-use Rattle.script_run.proofs.Firing.{fire_in_order}
-use Rattle.script_run.proofs.Following.{order_then}
+use Rattle.script_run.proofs.PutLines.{wrote_none}
+use Rattle.script_run.proofs.ListenerTurns.{calls_in-append}
+use Rattle.script_run.proofs.JournalNotes.{heard_silence}
+use Rattle.script_run.proofs.FiredEvents.{fire_in_order}
+use Rattle.script_run.proofs.FollowedLines.{order_then}
 use Rattle.script_run.proofs.PartsInRow.{ArePartsInRow, ran_as, stop_as, ran_then, ran_stop, ran_none}
-use Rattle.script_run.proofs.Resting.{due_turns, running_works, same_running, turn_taken}
+use Rattle.script_run.proofs.WorkLeft.{due_turns, running_works, same_running, turn_taken}
 
 -- ---- an event
 
@@ -144,7 +144,7 @@ pub drains_event : (blobs : List (List ℕ)) (a b : RunView) (event : Event) →
 drains_event blobs a b event p = record {
   entries = Fired event ∷ [];
   stepped = p;
-  order = λ st h. (first_event st (slice_get st.outer.queue 0) event (p.goes.replays st h).0, tt);
+  order = λ st h. (first_event st (slice_get st.element.queue 0) event (p.goes.replays st h).0, tt);
   silent = refl;
 }
 

@@ -34,12 +34,12 @@ use Rattle.script_run.specs.PlayedParts.{IsDispatchCut, HasGrown, IsHeardUpTo, I
 use Rattle.script_run.specs.RunStates.{run_at}
 use Rattle.script_run.specs.NoteHistory.{IsAllHeard, note_history, entries_until_event}
 use Rattle.script_run.specs.Text.{lines_of}
-use Rattle.script_run.specs.Turns.{AreInTurn, IsSpent, calls_in}
+use Rattle.script_run.specs.Turns.{AreInTurn, CallsLeft, HasCallsLeft, calls_in}
 use Rattle.script_run.specs.Writes.{IsWritten, IsFrontWritten}
-use Rattle.script_run.proofs.Stepping.{fired_one}
-use Rattle.script_run.proofs.Telling.{heard_none}
-use Rattle.script_run.proofs.Writing.{front_none}
-use Rattle.script_run.proofs.Cutting.{cut_as_memory, cut_of, heard_to_all}
+use Rattle.script_run.proofs.RunSteps.{fired_one}
+use Rattle.script_run.proofs.JournalNotes.{heard_none}
+use Rattle.script_run.proofs.PutLines.{front_none}
+use Rattle.script_run.proofs.CutDispatches.{cut_of, heard_to_all, heard_to_limit}
 
 -- entries that are calls of listeners
 calls_own : (low high : ℕ) (es : List Entry) → AreCallsInTurn low high es → own_of es ≡ []
@@ -181,37 +181,27 @@ fired_ran blobs event a b c t0 t1 n0 n1 step d same wrote =
     }
 
 -- a dispatch that ended with a fault
-cut_at : (blobs : List (List ℕ)) (event : Event) (b c : RunView) (n0 n1 : List (List Note)) (f : DispatchFault)
+cut_at : (blobs : List (List ℕ)) (event : Event) (a b c : RunView) (n0 n1 : List (List Note)) (f : DispatchFault) → IsOwnStep blobs (Fired event ∷ []) a b
     → (d : IsDispatch blobs event (dispatch_view b n0) (dispatch_view c n1) (Err f)) → length n1 ≡ length n0
-    → IsDispatchCut f (Fired event ∷ d.entries) n0 n1
-cut_at blobs event b c n0 n1 f d same = cut_of f event d.entries c.left n0 n1 d.in_turn same (heard_none n0) d.outcome
-
--- the calls that were left were made
-fired_spent : (blobs : List (List ℕ)) (event : Event) (a b c : RunView) (n0 n1 : List (List Note)) → IsOwnStep blobs (Fired event ∷ []) a b
-    → (d : IsDispatch blobs event (dispatch_view b n0) (dispatch_view c n1) (Err fault.TaskBudget)) → IsSpent a.left (Fired event ∷ d.entries)
-fired_spent blobs event a b c n0 n1 step d =
-    let left : a.left ≡ c.left + calls_in (Fired event ∷ d.entries) = fired_left blobs event a b c n0 n1 (Err fault.TaskBudget) step d in
-    let none : c.left ≡ 0 = d.outcome.ending.0 in
-    omega (arith, left, none)
+    → IsDispatchCut (HasCallsLeft a.left) f (Fired event ∷ d.entries) n0 n1
+cut_at blobs event a b c n0 n1 f step d same =
+    cut_of (HasCallsLeft a.left) f event d.entries c.left n0 n1 d.in_turn (fired_left blobs event a b c n0 n1 (Err f) step d) same (heard_none n0) d.outcome
 
 -- it was cut by a limit
 fired_over : (blobs : List (List ℕ)) (event : Event) (f : DispatchFault) (a b c : RunView) (n0 n1 : List (List Note)) → ¬ (f ≡ fault.OutOfMemory)
     → IsOwnStep blobs (Fired event ∷ []) a b → (d : IsDispatch blobs event (dispatch_view b n0) (dispatch_view c n1) (Err f)) → length n1 ≡ length n0
-    → IsOverLimit (IsSpent a.left) (stop_of f) (Fired event ∷ d.entries) n0 n1
+    → IsOverLimit (HasCallsLeft a.left) (stop_of f) (Fired event ∷ d.entries) n0 n1
 fired_over blobs event fault.OutOfMemory a b c n0 n1 not step d same = absurd (not refl)
-fired_over blobs event (fault.CallBudget k) a b c n0 n1 not step d same = cut_at blobs event b c n0 n1 (fault.CallBudget k) d same
-fired_over blobs event fault.TaskBudget a b c n0 n1 not step d same =
-    (fired_spent blobs event a b c n0 n1 step d, cut_at blobs event b c n0 n1 fault.TaskBudget d same)
+fired_over blobs event (fault.CallBudget k) a b c n0 n1 not step d same = cut_at blobs event a b c n0 n1 (fault.CallBudget k) step d same
+fired_over blobs event fault.TaskBudget a b c n0 n1 not step d same = cut_at blobs event a b c n0 n1 fault.TaskBudget step d same
 
 heard_to : (blobs : List (List ℕ)) (event : Event) (h : Halt) (a b c : RunView) (n0 n1 : List (List Note)) (result : Result (Unit {0}) DispatchFault)
     → ¬ (result ≡ Err fault.OutOfMemory) → IsOwnStep blobs (Fired event ∷ []) a b
     → (d : IsDispatch blobs event (dispatch_view b n0) (dispatch_view c n1) result) → length n1 ≡ length n0
-    → IsHeardUpTo (IsSpent a.left) h (Fired event ∷ d.entries) n0 n1
-heard_to blobs event h a b c n0 n1 (Ok u) not step d same = heard_to_all (IsSpent a.left) h (Fired event ∷ d.entries) n0 n1 (heard_at blobs event b c n0 n1 d same)
-heard_to blobs event halt.Memory a b c n0 n1 (Err f) not step d same =
-    inr (cut_as_memory f (Fired event ∷ d.entries) n0 n1 (cut_at blobs event b c n0 n1 f d same))
-heard_to blobs event halt.Write a b c n0 n1 (Err f) not step d same =
-    inr (stop_of f, fired_over blobs event f a b c n0 n1 (λ e. not (ap Err e)) step d same)
+    → IsHeardUpTo (HasCallsLeft a.left) h (Fired event ∷ d.entries) n0 n1
+heard_to blobs event h a b c n0 n1 (Ok u) not step d same = heard_to_all (HasCallsLeft a.left) h (Fired event ∷ d.entries) n0 n1 (heard_at blobs event b c n0 n1 d same)
+heard_to blobs event h a b c n0 n1 (Err f) not step d same =
+    heard_to_limit (HasCallsLeft a.left) (stop_of f) h (Fired event ∷ d.entries) n0 n1 (fired_over blobs event f a b c n0 n1 (λ e. not (ap Err e)) step d same)
 
 -- the lines were not all written
 pub fired_half : (blobs : List (List ℕ)) (event : Event) (h : Halt) (a b c : RunView) (t0 t1 : Option (List ℕ)) (n0 n1 : List (List Note)) (result : Result (Unit {0}) DispatchFault)
@@ -239,16 +229,16 @@ fired_short blobs event a b c t n0 n1 step d same = record {
     entries = Fired event ∷ d.entries;
     grew = fired_entries blobs (λ st part. IsLineFront blobs st Fire part) event a b c n0 n1 (Err fault.OutOfMemory) (λ st part p. inr p) step d;
     turns = fired_turns blobs event b c n0 n1 (Err fault.OutOfMemory) d;
-    stopped = (front_none t (lines_of (Fired event ∷ d.entries)), inr (cut_at blobs event b c n0 n1 fault.OutOfMemory d same));
+    stopped = (front_none t (lines_of (Fired event ∷ d.entries)), inr (inl (cut_at blobs event a b c n0 n1 fault.OutOfMemory step d same)));
   };
   left = fired_left blobs event a b c n0 n1 (Err fault.OutOfMemory) step d;
 }
 
-stopped_by : (spent : List Entry → Type 0) (f : DispatchFault) (es : List Entry) (a c : RunView) (t0 t1 : Option (List ℕ)) (n0 n1 : List (List Note))
-    → IsWritten (lines_of es) t0 t1 → IsOverLimit spent (stop_of f) es n0 n1 → IsStoppedBy spent (stop_of f) es (run_at a t0 n0) (run_at c t1 n1)
-stopped_by spent fault.OutOfMemory es a c t0 t1 n0 n1 wrote over = absurd over
-stopped_by spent (fault.CallBudget k) es a c t0 t1 n0 n1 wrote over = (wrote, over)
-stopped_by spent fault.TaskBudget es a c t0 t1 n0 n1 wrote over = (wrote, over)
+stopped_by : (calls_left : CallsLeft) (f : DispatchFault) (es : List Entry) (a c : RunView) (t0 t1 : Option (List ℕ)) (n0 n1 : List (List Note))
+    → IsWritten (lines_of es) t0 t1 → IsOverLimit calls_left (stop_of f) es n0 n1 → IsStoppedBy calls_left (stop_of f) es (run_at a t0 n0) (run_at c t1 n1)
+stopped_by calls_left fault.OutOfMemory es a c t0 t1 n0 n1 wrote over = absurd over
+stopped_by calls_left (fault.CallBudget k) es a c t0 t1 n0 n1 wrote over = (wrote, over)
+stopped_by calls_left fault.TaskBudget es a c t0 t1 n0 n1 wrote over = (wrote, over)
 
 -- a limit ended the dispatch
 pub fired_stopped : (blobs : List (List ℕ)) (event : Event) (f : DispatchFault) (a b c : RunView) (t0 t1 : Option (List ℕ)) (n0 n1 : List (List Note))
@@ -263,7 +253,7 @@ fired_stopped blobs event f a b c t0 t1 n0 n1 not step d same wrote =
         entries = Fired event ∷ d.entries;
         grew = fired_entries blobs (λ st part. IsLineFront blobs st Fire part) event a b c n0 n1 (Err f) (λ st part p. inr p) step d;
         turns = fired_turns blobs event b c n0 n1 (Err f) d;
-        stopped = stopped_by (IsSpent a.left) f (Fired event ∷ d.entries) a c t0 t1 n0 n1 (rw lines at wrote) (fired_over blobs event f a b c n0 n1 not step d same);
+        stopped = stopped_by (HasCallsLeft a.left) f (Fired event ∷ d.entries) a c t0 t1 n0 n1 (rw lines at wrote) (fired_over blobs event f a b c n0 n1 not step d same);
       };
       left = fired_left blobs event a b c n0 n1 (Err f) step d;
     }
@@ -309,18 +299,18 @@ not_fired st (Some x) entry es other e = other x (cc)
 pub fire_in_order : (blobs : List (List ℕ)) (count : ℕ) (st : State) (part : List Entry) → AreInTurn count None part → own_of part ≡ fire_entries (fire_result st) → AreInDrainOrder blobs st part
 fire_in_order blobs count st [] turns own = tt
 fire_in_order blobs count st (Fired event ∷ es) turns own = (
-  first_fired st (slice_get st.outer.queue 0) event (own_of es) own,
-  silent_order blobs (entry_meaning blobs st (Fired event)).state es (rest_fired st (slice_get st.outer.queue 0) event (own_of es) own),
+  first_fired st (slice_get st.element.queue 0) event (own_of es) own,
+  silent_order blobs (entry_meaning blobs st (Fired event)).state es (rest_fired st (slice_get st.element.queue 0) event (own_of es) own),
 )
 fire_in_order blobs count st (Listener v c a ∷ es) turns own = absurd turns
-fire_in_order blobs count st (Step n ∷ es) turns own = absurd (not_fired st (slice_get st.outer.queue 0) (Step n) (own_of es) (λ event e. cc) own)
-fire_in_order blobs count st (Script c a ∷ es) turns own = absurd (not_fired st (slice_get st.outer.queue 0) (Script c a) (own_of es) (λ event e. cc) own)
-fire_in_order blobs count st (Work k ∷ es) turns own = absurd (not_fired st (slice_get st.outer.queue 0) (Work k) (own_of es) (λ event e. cc) own)
-fire_in_order blobs count st (Element ∷ es) turns own = absurd (not_fired st (slice_get st.outer.queue 0) Element (own_of es) (λ event e. cc) own)
+fire_in_order blobs count st (Step n ∷ es) turns own = absurd (not_fired st (slice_get st.element.queue 0) (Step n) (own_of es) (λ event e. cc) own)
+fire_in_order blobs count st (Script c a ∷ es) turns own = absurd (not_fired st (slice_get st.element.queue 0) (Script c a) (own_of es) (λ event e. cc) own)
+fire_in_order blobs count st (Work k ∷ es) turns own = absurd (not_fired st (slice_get st.element.queue 0) (Work k) (own_of es) (λ event e. cc) own)
+fire_in_order blobs count st (Element ∷ es) turns own = absurd (not_fired st (slice_get st.element.queue 0) Element (own_of es) (λ event e. cc) own)
 
 -- nothing is fired where no event waits
 nothing_by : (st : State) (q : List Event) → q ≡ [] → [] ≡ fired_by st (slice_get q 0)
 nothing_by st q e = rw e refl
 
 pub nothing_fired : (st : State) → HasNoEvent st → own_of [] ≡ fire_entries (fire_result st)
-nothing_fired st e = nothing_by st st.outer.queue e
+nothing_fired st e = nothing_by st st.element.queue e

@@ -19,9 +19,9 @@ use Rattle.listeners.specs.Notes.{told_note, heard_of, calls_made}
 use Rattle.listeners.specs.RuleCalls.{is_answering, answering_rules, rule_calls, next_call}
 use Rattle.listeners.specs.Index.{HasIndex}
 use Rattle.listeners.specs.Coming.{no_rule, rule_at, call_at, rules_at, IsLeft, HasNextCall, AreCallsLeft, HasListenerInvariants}
-use Rattle.listeners.proofs.Noting.{heard_more, heard_made, rested_heard, rested_made, made_heard, made_made}
-use Rattle.listeners.proofs.Hearing.{answering_next, AreDutiesAfter}
-use Rattle.listeners.proofs.Calling.{none_left, made_first, more_left, one_left, again_left, over_left, next_none, next_some, answers_have, ready_begin, ready_more}
+use Rattle.listeners.proofs.NoteLists.{heard_more, heard_made, rested_heard, rested_made, made_heard, made_made}
+use Rattle.listeners.proofs.HeardEvents.{answering_next, AreDutiesAfter}
+use Rattle.listeners.proofs.CallsLeft.{none_left, made_first, more_left, one_left, again_left, over_left, next_none, next_some, answers_have, ready_begin, ready_more}
 
 pub holds_first : (rules : List Rule) → HasListenerInvariants rules [] None [] 0
 holds_first rules = record { left = none_left rules; ready = refl; indexed = refl }
