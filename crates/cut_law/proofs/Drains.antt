@@ -12,8 +12,7 @@ use Rattle.source_buffers.specs.Slots.{slot_turn_of, turn_by_slot, buffers_turn_
 use Rattle.mse_engine.specs.State.{CoreSource, Core}
 use Rattle.mse_engine.specs.Replies.{surroundings_in}
 use Rattle.mse_engine.specs.CoreEffects.{CoreEffect}
-use Rattle.mse_engine.specs.BufferCalls.{reply_effect}
-use Rattle.mse_engine.specs.Work.{work_effect}
+use Rattle.mse_engine.specs.Work.{turn_effect, work_effect}
 use Rattle.cut_law.proofs.Halves.{Half, half_by, half_at_end, half_at_end-idle, half_at_end-rests, half_at_end-work, half_after_append, cut-half}
 
 -- what is in a slot, and the source
@@ -91,7 +90,7 @@ lowest-is bs = position_from-zero is_updating_slot (running_of_all bs) ∙ lowes
 
 -- ---- where nothing runs
 
-lowest-none-by : (t : Bool) (rest : Option ℕ) → (if t then Some zero else option_map (λ k. suc k) rest) ≡ None → (t ≡ false) × (rest ≡ None)
+pub lowest-none-by : (t : Bool) (rest : Option ℕ) → (if t then Some zero else option_map (λ k. suc k) rest) ≡ None → (t ≡ false) × (rest ≡ None)
 lowest-none-by true rest e = absurd (cc)
 lowest-none-by false None e = (refl, refl)
 lowest-none-by false (Some j) e = absurd (cc)
@@ -155,13 +154,13 @@ abbrev pub work_core : ℕ → Core → Core
 work_core k c = core_by (work_effect k c) c
 
 turned : (o : Option CallResult) (b : BufferState) (k : ℕ) (c : Core) → slice_get c.buffers k ≡ Some (Some b)
-    → core_by (option_map (λ result. reply_effect k result c) (buffers_turn_of k c.buffers (slot_turn_of o))) c
+    → core_by (option_map (λ result. turn_effect k result c) (buffers_turn_of k c.buffers (slot_turn_of o))) c
     ≡ core_with_slot k c.buffers (slot_of_half (half_by k o (record { buffer = b; source = c.source })))
 turned None b k c e = ap (λ bs. record { source = c.source; buffers = bs }) (sym (set-same c.buffers k (Some b) e))
 turned (Some r) b k c e = refl
 
 turned-slot : (x : Option (Option BufferState)) (slot : Option BufferState) (k : ℕ) (c : Core) → slice_get c.buffers k ≡ Some slot → x ≡ Some slot
-    → core_by (option_map (λ result. reply_effect k result c) (turn_by_slot x k (surroundings_in k c.source) c.buffers)) c ≡ core_with_slot k c.buffers (slot_after_step k slot c.source)
+    → core_by (option_map (λ result. turn_effect k result c) (turn_by_slot x k (surroundings_in k c.source) c.buffers)) c ≡ core_with_slot k c.buffers (slot_after_step k slot c.source)
 turned-slot None slot k c e h = absurd (cc)
 turned-slot (Some a) None k c e h =
     let same : a ≡ None = cc in

@@ -1,5 +1,5 @@
 -- Worked scripts: two ADTS frames, appended at once and in parts.
-use Rattle.std.proofs.Common.{◌≡◌, ℕ, ◌+◌, ◌≤◌, pos, true, List, [], ◌∷◌, ◌++◌, length, map, refl, ap, sym, ◌∙◌, arith}
+use Rattle.std.proofs.Common.{◌≡◌, ℕ, ◌+◌, ◌≤◌, pos, List, [], ◌∷◌, ◌++◌, length, map, refl, ap, sym, ◌∙◌, arith}
 use Rattle.std.specs.Prelude.{Option, Some, None}
 use Rattle.mse_base.specs.Time.{tick}
 use Rattle.mse_base.specs.declared.ticks.Moment.TheVariants.{Nan}
@@ -11,9 +11,9 @@ use Rattle.adts_stream.specs.Frames.{string_parse}
 use Rattle.adts_stream.specs.Headers.{frame_found, id3_length, found_at}
 use Rattle.call_script.specs.declared.script.StepLine.{StepLine}
 use Rattle.call_script.specs.declared.script.StepLine.TheVariants.{Call}
-use Rattle.element_seek.specs.State.{new_player}
+use Rattle.media_element.specs.State.{new_element}
 use Rattle.source_buffers.specs.State.{BufferState, new_buffer}
-use Rattle.mse_engine.specs.State.{Core, State, element_of}
+use Rattle.mse_engine.specs.State.{Core, State, core_of}
 use Rattle.cut_law.specs.Plays.{play_of, drain_entries}
 use Rattle.cut_law.specs.Room.{IsUnmet}
 use Rattle.cut_law.specs.Cuts.{append_lines, part_lines, IsOtherCut, IsAwaited}
@@ -28,18 +28,14 @@ blobs = frames ∷ (0 ∷ 0 ∷ 0 ∷ 0 ∷ 0 ∷ 0 ∷ 0 ∷ []) ∷ []
 -- an open source with two buffers for ADTS
 abbrev two_buffers : ℕ → State
 two_buffers quota = record {
-  core = record {
-    source = record {
-      state = record { ready = Opened; duration = Nan; live = None; made = 2; listed = 0 ∷ 1 ∷ []; active = [] };
-      error = 0;
-      blank = true;
-      fault = None;
-      quota = quota;
-      gap = pos 0;
-    };
-    buffers = Some (new_buffer (pos 0) Adts) ∷ Some (new_buffer (pos 0) Adts) ∷ [];
+  source = record {
+    state = record { ready = Opened; duration = Nan; live = None; made = 2; listed = 0 ∷ 1 ∷ []; active = [] };
+    fault = None;
+    quota = quota;
+    gap = pos 0;
   };
-  outer = record { element = element_of new_player; queue = [] };
+  buffers = Some (new_buffer (pos 0) Adts) ∷ Some (new_buffer (pos 0) Adts) ∷ [];
+  element = new_element;
 }
 
 -- how many coded frames each track of each buffer holds
@@ -51,7 +47,7 @@ abbrev counts : Core → List (List ℕ)
 counts c = map count_in c.buffers
 
 abbrev counts_behind : ℕ → List StepLine → List (List ℕ)
-counts_behind quota lines = counts (play_of blobs (two_buffers quota) lines).core
+counts_behind quota lines = counts (core_of (play_of blobs (two_buffers quota) lines))
 
 abbrev one_frame : List (List ℕ)
 one_frame = (1 ∷ []) ∷ [] ∷ []
@@ -120,9 +116,9 @@ cut_in_two front = record {
 different : one_frame ≡ two_frames → ⊥
 different e = absurd (cc)
 
-pub needs-awaited : ((blobs : List (List ℕ)) (st : State) (s t : List StepLine) → IsOtherCut blobs s t → IsUnmet blobs st s → IsUnmet blobs st t → (play_of blobs st t).core ≡ (play_of blobs st s).core) → ⊥
+pub needs-awaited : ((blobs : List (List ℕ)) (st : State) (s t : List StepLine) → IsOtherCut blobs s t → IsUnmet blobs st s → IsUnmet blobs st t → core_of (play_of blobs st t) ≡ core_of (play_of blobs st s)) → ⊥
 needs-awaited f =
-    let same : (play_of blobs (two_buffers 1000) (other_append ++ halves_lines)).core ≡ (play_of blobs (two_buffers 1000) (other_append ++ whole_lines)).core = f blobs (two_buffers 1000) (other_append ++ whole_lines) (other_append ++ halves_lines) (cut_in_two other_append) other_append-room other_append-cut-room in
+    let same : core_of (play_of blobs (two_buffers 1000) (other_append ++ halves_lines)) ≡ (core_of (play_of blobs (two_buffers 1000) (other_append ++ whole_lines))) = f blobs (two_buffers 1000) (other_append ++ whole_lines) (other_append ++ halves_lines) (cut_in_two other_append) other_append-room other_append-cut-room in
     different (sym row-late-cut ∙ ap counts same ∙ row-late-whole)
 
 -- ---- the quota must not be met: the first frame meets it
@@ -138,9 +134,9 @@ row-quota-cut = refl
 nothing-runs : IsAwaited blobs (two_buffers 10) []
 nothing-runs = refl
 
-pub needs-room : ((blobs : List (List ℕ)) (st : State) (s t : List StepLine) (c : IsOtherCut blobs s t) → IsAwaited blobs st c.front → (play_of blobs st t).core ≡ (play_of blobs st s).core) → ⊥
+pub needs-room : ((blobs : List (List ℕ)) (st : State) (s t : List StepLine) (c : IsOtherCut blobs s t) → IsAwaited blobs st c.front → core_of (play_of blobs st t) ≡ core_of (play_of blobs st s)) → ⊥
 needs-room f =
-    let same : (play_of blobs (two_buffers 10) halves_lines).core ≡ (play_of blobs (two_buffers 10) whole_lines).core = f blobs (two_buffers 10) whole_lines halves_lines (cut_in_two []) nothing-runs in
+    let same : core_of (play_of blobs (two_buffers 10) halves_lines) ≡ (core_of (play_of blobs (two_buffers 10) whole_lines)) = f blobs (two_buffers 10) whole_lines halves_lines (cut_in_two []) nothing-runs in
     different (sym row-quota-cut ∙ ap counts same ∙ row-quota-whole)
 
 -- ---- the parts must come in their order

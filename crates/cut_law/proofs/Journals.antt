@@ -1,14 +1,13 @@
 -- A play that does not meet the quota: its core is that of its lines.
-use Rattle.std.proofs.Common.{◌≡◌, ℕ, zero, suc, ◌+◌, ◌≤◌, ◌==◌, ℤ, pos, Bool, true, false, not, ◌||◌, List, [], ◌∷◌, ◌++◌, length, refl, ap, sym, subst, ◌∙◌, arith}
+use Rattle.std.proofs.Common.{◌≡◌, ℕ, zero, suc, ◌+◌, ◌==◌, ℤ, pos, Bool, true, false, not, ◌||◌, List, [], ◌∷◌, ◌++◌, length, refl, ap, sym, subst, ◌∙◌, arith}
 use Rattle.std.specs.Prelude.{Option, Some, None, IfSome, slice_get, slice_set, option_map, if◌then◌else◌, nat_le, nat_lt, ◌^◌}
 use Rattle.std.proofs.lemmas.Bool.Decides.{nat_tests}
-use Rattle.std.proofs.lemmas.Option.{slice_get_past}
 use Rattle.std.specs.Option.{option_flatten}
 use Rattle.mse_calls.specs.declared.events.EventKind.TheVariants.{UpdateStart}
 use Rattle.mse_base.specs.declared.ticks.Moment.{Moment}
 use Rattle.mse_calls.specs.AnswerAndState.{AnswerAndState}
 use Rattle.mse_calls.specs.Pieces.{bytes_of}
-use Rattle.mse_calls.specs.declared.answers.Name.TheVariants.{InvalidState, QuotaExceeded, NoSuchBuffer}
+use Rattle.mse_calls.specs.declared.answers.Name.TheVariants.{InvalidState, QuotaExceeded}
 use Rattle.mse_calls.specs.declared.calls.Call.{Call}
 use Rattle.mse_calls.specs.declared.calls.Call.TheVariants as call
 use Rattle.mse_calls.specs.declared.events.Event.{Event}
@@ -20,26 +19,29 @@ use Rattle.track_buffers.specs.Frames.{media_after_eviction, used_in}
 use Rattle.buffer_state.specs.State.{Feed, Surroundings, is_updating, feed_with}
 use Rattle.mse_calls.specs.Ready.{is_ended}
 use Rattle.buffer_state.specs.Replies.{event_reply, refused_result, result_with}
-use Rattle.buffer_state.specs.Calls.{is_full, unless_refused, append_result, append_result_by_room, append_result_after_eviction, with_media}
+use Rattle.buffer_state.specs.AllCalls.{Append, input_at}
+use Rattle.buffer_state.specs.Calls.{is_full, unless_refused, append_result_by_room, append_result_after_eviction, with_media}
 use Rattle.source_buffers.specs.State.{BufferState, in_slot}
 use Rattle.source_buffers.specs.Slots.{result_by_slot, call_in_slot}
 use Rattle.call_script.specs.declared.script.StepLine.{StepLine}
 use Rattle.call_script.specs.declared.script.StepLine.TheVariants as step
-use Rattle.mse_engine.specs.State.{CoreSource, Core, State, outer_of, element_in}
+use Rattle.mse_engine.specs.State.{CoreSource, Core, State, core_of}
+use Rattle.mse_engine.specs.Scenes.{scene_in}
 use Rattle.mse_engine.specs.Signals.{step as step_of}
 use Rattle.media_element.specs.Queueing as queueing
 use Rattle.mse_engine.specs.Replies.{surroundings_in}
-use Rattle.mse_engine.specs.CoreEffects.{CoreEffect, refused_effect, if_made}
-use Rattle.mse_engine.specs.BufferCalls.{reply_effect, append_effect_of}
+use Rattle.mse_engine.specs.CoreEffects.{CoreEffect}
+use Rattle.mse_engine.specs.BufferCalls.{buffer_effect, call_effect}
 use Rattle.mse_engine.specs.Calls.{core_effect}
-use Rattle.mse_engine.specs.Work.{work_effect, work_result, after_element_turn, without_first, fire_result, is_turn_due, scene_in}
+use Rattle.mse_engine.specs.Work.{work_effect, work_result, after_element_turn, without_first, fire_result, is_turn_due}
 use Rattle.mse_engine.specs.Run.{step_meaning, fire_meaning, after_entries, fire_entries, entries_if}
+use Rattle.mse_engine.proofs.Cores.{call-core, own_turn-core}
 use Rattle.cut_law.specs.Plays.{after_entry, line_entries, after_line, play_entries, play_of}
 use Rattle.cut_law.specs.Room.{HasRoomFor, HasRoomForCall, HasRoomForEntry, HasRoomForLine, IsUnmet}
 use Rattle.cut_law.proofs.Halves.{half_with, half_after_append}
 use Rattle.cut_law.proofs.Halves.{half_after_append_by as free_by}
 use Rattle.cut_law.proofs.Drains.{core_with_slot, slot_of_half, on_slot, append_core, core_by, work_core, drain_core}
-use Rattle.cut_law.proofs.Ending.{after-append, turned-core, meaning-core, drain-core}
+use Rattle.cut_law.proofs.DrainEnds.{after-append, turned-core, meaning-core, drain-core}
 
 -- ---- calls
 
@@ -83,28 +85,24 @@ set-same (y ∷ ys) zero x e = let same : y ≡ x = cc in ap (λ z. z ∷ ys) (s
 set-same (y ∷ ys) (suc k) x e = ap (λ zs. y ∷ zs) (set-same ys k x e)
 
 found-free : (x : Option (Option BufferState)) (bytes : List ℕ) (position : ℤ) (k : ℕ) (c : Core) → slice_get c.buffers k ≡ x → HasRoomFor (Some bytes) c.source.quota (option_flatten x)
-    → (reply_effect k (result_by_slot x (call_in_slot InvalidState c.source.state.duration (append_result (record { bytes = bytes; position = position; quota = c.source.quota }) (surroundings_in k c.source))) c.source.state.duration k c.buffers) c).core
+    → (call_effect k (Append (Some (record { bytes = bytes; position = position; quota = c.source.quota }))) (result_by_slot x (call_in_slot (Append (Some (record { bytes = bytes; position = position; quota = c.source.quota }))) (surroundings_in k c.source)) c.source.state.duration k c.buffers) c).core
     ≡ on_slot x k (half_after_append bytes) c
 found-free None bytes position k c e room = refl
 found-free (Some None) bytes position k c e room = ap (λ bs. record { source = c.source; buffers = bs }) (set-same c.buffers k None e)
 found-free (Some (Some b)) bytes position k c e room =
     ap (λ h. core_with_slot k c.buffers (slot_of_half h)) (append-free (is_updating b.feed.running || not (c.source.error == 0)) bytes position k b c.source room)
 
--- a call on a buffer that was made, or on one that was not
-made-core : (t : Bool) (k : ℕ) (m : CoreEffect) (c d : Core) → nat_lt k (length c.buffers) ≡ t → m.core ≡ d → (t ≡ false → c ≡ d) → (if_made k m c).core ≡ d
-made-core true k m c d e h f = ap (λ t. (if t then m else refused_effect NoSuchBuffer c).core) e ∙ h
-made-core false k m c d e h f = ap (λ t. (if t then m else refused_effect NoSuchBuffer c).core) e ∙ f refl
-
-past : (k n : ℕ) → nat_lt k n ≡ false → n ≤ k
-past k n e = grind (arith, nat_tests)
+-- there are no such bytes
+found-none : (x : Option (Option BufferState)) (k : ℕ) (c : Core) → slice_get c.buffers k ≡ x
+    → (call_effect k (Append None) (result_by_slot x (call_in_slot (Append None) (surroundings_in k c.source)) c.source.state.duration k c.buffers) c).core ≡ c
+found-none None k c e = refl
+found-none (Some None) k c e = ap (λ bs. record { source = c.source; buffers = bs }) (set-same c.buffers k None e)
+found-none (Some (Some b)) k c e = ap (λ bs. record { source = c.source; buffers = bs }) (set-same c.buffers k (Some b) e)
 
 append-effect : (x : Option (List ℕ)) (position : ℤ) (k : ℕ) (c : Core) → HasRoomFor x c.source.quota (in_slot k c.buffers)
-    → (if_made k (append_effect_of x k position c) c).core ≡ append_some x k c
-append-effect None position k c room = made-core (nat_lt k (length c.buffers)) k (append_effect_of None k position c) c c refl refl (λ e. refl)
-append-effect (Some bytes) position k c room =
-    made-core (nat_lt k (length c.buffers)) k (append_effect_of (Some bytes) k position c) c (append_core bytes k c) refl
-    (found-free (slice_get c.buffers k) bytes position k c refl room)
-    (λ e. sym (ap (λ x. on_slot x k (half_after_append bytes) c) (slice_get_past c.buffers k (past k (length c.buffers) e))))
+    → (buffer_effect k (Append (input_at position c.source.quota x)) c).core ≡ append_some x k c
+append-effect None position k c room = found-none (slice_get c.buffers k) k c refl
+append-effect (Some bytes) position k c room = found-free (slice_get c.buffers k) bytes position k c refl room
 
 pub call-free : (blobs : List (List ℕ)) (position : ℤ) (made : Call) (c : Core) → HasRoomForCall blobs c made → (core_effect blobs position made c).core ≡ free_call blobs made c
 call-free blobs position call.Attach c room = refl
@@ -141,37 +139,37 @@ core_line blobs (step.Work k) c = work_core k c
 core_line blobs step.Element c = c
 core_line blobs step.Drain c = drain_core c
 
-fire-core : (fired : Option (AnswerAndState Event State)) (blobs : List (List ℕ)) (st : State) → fire_result st ≡ fired → IfSome fired (λ a. a.state.core ≡ st.core)
-    → (after_entries blobs st (fire_entries fired)).core ≡ st.core
+fire-core : (fired : Option (AnswerAndState Event State)) (blobs : List (List ℕ)) (st : State) → fire_result st ≡ fired → IfSome fired (λ a. core_of a.state ≡ core_of st)
+    → core_of (after_entries blobs st (fire_entries fired)) ≡ core_of st
 fire-core None blobs st e h = refl
-fire-core (Some a) blobs st e h = ap (λ fired. (fire_meaning fired a.answer st).state.core) e ∙ h
+fire-core (Some a) blobs st e h = ap (λ fired. core_of (fire_meaning fired a.answer st).state) e ∙ h
 
 -- an event that is fired leaves the core
-pub fired-core : (st : State) → IfSome (fire_result st) (λ a. a.state.core ≡ st.core)
-fired-core st = fired-by (slice_get st.outer.queue 0) st
+pub fired-core : (st : State) → IfSome (fire_result st) (λ a. core_of a.state ≡ core_of st)
+fired-core st = fired-by (slice_get st.element.queue 0) st
   where
-    fired-by : (x : Option Event) (st : State) → IfSome {T = AnswerAndState Event State} (option_map (λ event. record { answer = event; state = without_first st }) x) (λ a. a.state.core ≡ st.core)
+    fired-by : (x : Option Event) (st : State) → IfSome {T = AnswerAndState Event State} (option_map (λ event. record { answer = event; state = without_first st }) x) (λ a. core_of a.state ≡ core_of st)
     fired-by None st = tt
     fired-by (Some event) st = refl
 
-work-core : (o : Option CoreEffect) (blobs : List (List ℕ)) (st : State) (k : ℕ) → work_effect k st.core ≡ o
-    → (after_entries blobs st (entries_if (work_result o st) (Work k))).core ≡ core_by o st.core
+work-core : (o : Option CoreEffect) (blobs : List (List ℕ)) (st : State) (k : ℕ) → work_effect k (core_of st) ≡ o
+    → core_of (after_entries blobs st (entries_if (work_result o st) (Work k))) ≡ core_by o (core_of st)
 work-core None blobs st k e = refl
-work-core (Some m) blobs st k e = ap (λ o. (step_meaning (work_result o st) st).state.core) e
+work-core (Some m) blobs st k e = meaning-core k st ∙ ap (λ o. core_by o (core_of st)) e
 
-turn-core : (o : Option State) (blobs : List (List ℕ)) (st : State) → after_element_turn st ≡ o → (step_meaning o st).state.core ≡ st.core
-    → (after_entries blobs st (entries_if o Element)).core ≡ st.core
+turn-core : (o : Option State) (blobs : List (List ℕ)) (st : State) → after_element_turn st ≡ o → core_of (step_meaning o st).state ≡ core_of st
+    → core_of (after_entries blobs st (entries_if o Element)) ≡ core_of st
 turn-core None blobs st e h = refl
-turn-core (Some new) blobs st e h = ap (λ o. (step_meaning o st).state.core) e ∙ h
+turn-core (Some new) blobs st e h = ap (λ o. (core_of (step_meaning o st).state)) e ∙ h
 
-pub line-core : (blobs : List (List ℕ)) (st : State) (line : StepLine) → HasRoomForLine blobs st.core line → (after_line blobs st line).core ≡ core_line blobs line st.core
-line-core blobs st (step.Call made) room = call-free blobs st.outer.element.position made st.core room
+pub line-core : (blobs : List (List ℕ)) (st : State) (line : StepLine) → HasRoomForLine blobs (core_of st) line → core_of (after_line blobs st line) ≡ core_line blobs line (core_of st)
+line-core blobs st (step.Call made) room = call-core blobs made st ∙ call-free blobs st.element.player.position made (core_of st) room
 line-core blobs st step.Fire room = fire-core (fire_result st) blobs st refl (fired-core st)
-line-core blobs st (step.Work k) room = work-core (work_effect k st.core) blobs st k refl
+line-core blobs st (step.Work k) room = work-core (work_effect k (core_of st)) blobs st k refl
 line-core blobs st step.Element room = turn-core (after_element_turn st) blobs st refl (turned-core st)
 line-core blobs st step.Drain room = drain-core blobs st
 
-fired-entry : (o : Option (AnswerAndState Event State)) (event : Event) (st : State) → IfSome o (λ a. a.state.core ≡ st.core) → (fire_meaning o event st).state.core ≡ st.core
+fired-entry : (o : Option (AnswerAndState Event State)) (event : Event) (st : State) → IfSome o (λ a. core_of a.state ≡ core_of st) → core_of (fire_meaning o event st).state ≡ core_of st
 fired-entry None event st h = refl
 fired-entry (Some a) event st h = h
 
@@ -205,14 +203,14 @@ play-lines blobs n st (line ∷ lines) =
     after-append blobs st (line_entries blobs st line) (play_entries blobs (suc n) (after_line blobs st line) lines)
     ∙ play-lines blobs (suc n) (after_line blobs st line) lines
 
-lines-core : (blobs : List (List ℕ)) (st : State) (lines : List StepLine) → IsUnmet blobs st lines → (after_lines blobs st lines).core ≡ core_play blobs st.core lines
+lines-core : (blobs : List (List ℕ)) (st : State) (lines : List StepLine) → IsUnmet blobs st lines → core_of (after_lines blobs st lines) ≡ core_play blobs (core_of st) lines
 lines-core blobs st [] u = refl
 lines-core blobs st (line ∷ lines) u =
     lines-core blobs (after_line blobs st line) lines u.1 ∙ ap (λ c. core_play blobs c lines) (line-core blobs st line u.0)
 
 -- the core that a play comes to
-pub play-core : (blobs : List (List ℕ)) (st : State) (lines : List StepLine) → IsUnmet blobs st lines → (play_of blobs st lines).core ≡ core_play blobs st.core lines
-play-core blobs st lines u = ap (λ (s : State). s.core) (play-lines blobs 0 st lines) ∙ lines-core blobs st lines u
+pub play-core : (blobs : List (List ℕ)) (st : State) (lines : List StepLine) → IsUnmet blobs st lines → core_of (play_of blobs st lines) ≡ core_play blobs (core_of st) lines
+play-core blobs st lines u = ap (λ (s : State). core_of s) (play-lines blobs 0 st lines) ∙ lines-core blobs st lines u
 
 -- the first lines of some that do not meet the quota do not meet it
 pub unmet-front : (blobs : List (List ℕ)) (st : State) (front more : List StepLine) → IsUnmet blobs st (front ++ more) → IsUnmet blobs st front
@@ -221,26 +219,26 @@ unmet-front blobs st (line ∷ front) more u = (u.0, unmet-front blobs (after_li
 
 -- ---- the core behind a step follows from the core before it
 
-entry-core : (blobs : List (List ℕ)) (st : State) (entry : Entry) → HasRoomForEntry blobs st.core entry → (after_entry blobs st entry).core ≡ core_entry blobs entry st.core
+entry-core : (blobs : List (List ℕ)) (st : State) (entry : Entry) → HasRoomForEntry blobs (core_of st) entry → core_of (after_entry blobs st entry) ≡ core_entry blobs entry (core_of st)
 entry-core blobs st (Step n) room = refl
-entry-core blobs st (Script made answer) room = call-free blobs st.outer.element.position made st.core room
-entry-core blobs st (Listener w made answer) room = call-free blobs st.outer.element.position made st.core room
+entry-core blobs st (Script made answer) room = call-core blobs made st ∙ call-free blobs st.element.player.position made (core_of st) room
+entry-core blobs st (Listener w made answer) room = call-core blobs made st ∙ call-free blobs st.element.player.position made (core_of st) room
 entry-core blobs st (Fired event) room = fired-entry (fire_result st) event st (fired-core st)
-entry-core blobs st (Work k) room = meaning-core (work_effect k st.core) st
+entry-core blobs st (Work k) room = meaning-core k st
 entry-core blobs st Element room = turned-core st
 
-pub same-entry : (blobs : List (List ℕ)) (a b : State) (entry : Entry) → a.core ≡ b.core → HasRoomForEntry blobs a.core entry → (after_entry blobs a entry).core ≡ (after_entry blobs b entry).core
+pub same-entry : (blobs : List (List ℕ)) (a b : State) (entry : Entry) → core_of a ≡ core_of b → HasRoomForEntry blobs (core_of a) entry → core_of (after_entry blobs a entry) ≡ core_of (after_entry blobs b entry)
 same-entry blobs a b entry e room =
     entry-core blobs a entry room ∙ ap (λ c. core_entry blobs entry c) e ∙ sym (entry-core blobs b entry (subst (λ c. HasRoomForEntry blobs c entry) e room))
 
-pub same-line : (blobs : List (List ℕ)) (a b : State) (line : StepLine) → a.core ≡ b.core → HasRoomForLine blobs a.core line → (after_line blobs a line).core ≡ (after_line blobs b line).core
+pub same-line : (blobs : List (List ℕ)) (a b : State) (line : StepLine) → core_of a ≡ core_of b → HasRoomForLine blobs (core_of a) line → core_of (after_line blobs a line) ≡ core_of (after_line blobs b line)
 same-line blobs a b line e room =
     line-core blobs a line room ∙ ap (λ c. core_line blobs line c) e ∙ sym (line-core blobs b line (subst (λ c. HasRoomForLine blobs c line) e room))
 
 -- a turn of the element leaves the core
-pub turn-leaves : (st : State) → IfSome (after_element_turn st) (λ new. new.core ≡ st.core)
-turn-leaves st = by-due (is_turn_due st) (step_of st.core [] (outer_of (queueing.after_own_turn (scene_in st) (element_in st.core.source.error st.outer)))) st refl
+pub turn-leaves : (st : State) → IfSome (after_element_turn st) (λ new. core_of new ≡ core_of st)
+turn-leaves st = by-due (is_turn_due st) (step_of (core_of st) [] (queueing.after_own_turn (scene_in st) st.element)) st (own_turn-core st)
   where
-    by-due : (t : Bool) (new st : State) → new.core ≡ st.core → IfSome (if t then Some new else None) (λ new. new.core ≡ st.core)
+    by-due : (t : Bool) (new st : State) → core_of new ≡ core_of st → IfSome (if t then Some new else None) (λ new. core_of new ≡ core_of st)
     by-due true new st e = e
     by-due false new st e = tt

@@ -1,8 +1,12 @@
 pub mod Halves
 pub mod Drains
-pub mod Ending
+pub mod DrainEnds
 pub mod Journals
-pub mod Cutting
-pub mod Stopping
+pub mod AwaitedAppends
+pub mod AppendsUpToFault
 pub mod Examples
-pub mod Filing
+pub mod FilesInPieces
+pub mod Singles
+pub mod Counts
+pub mod FileRooms
+pub mod WholeFiles

@@ -4,7 +4,7 @@ use Rattle.mse_calls.specs.declared.calls.Call.TheVariants.{AppendBuffer}
 use Rattle.mse_calls.specs.declared.calls.Piece.{Piece}
 use Rattle.mse_calls.specs.declared.views.FaultView.{FaultView}
 use Rattle.call_script.specs.declared.script.StepLine.TheVariants.{Call, Drain}
-use Rattle.mse_engine.specs.State.{State}
+use Rattle.mse_engine.specs.State.{State, core_of}
 use Rattle.cut_law.specs.Plays.{after_line}
 use Rattle.cut_law.specs.Room.{HasRoomForCall}
 
@@ -22,7 +22,7 @@ unless_fault (Some fault) stopped next = stopped
 abbrev pub after_pieces : List (List ℕ) → ℕ → State → List Piece → State
 after_pieces blobs k st [] = st
 after_pieces blobs k st (piece ∷ pieces) =
-    unless_fault st.core.source.fault st
+    unless_fault st.source.fault st
     (after_pieces blobs k (after_piece blobs k st piece) pieces)
 
 abbrev pub IfNoFault : Option FaultView → Type 0 → Type 0
@@ -33,6 +33,6 @@ IfNoFault (Some fault) P = Unit {0}
 abbrev pub IsRoomBeforeEach : List (List ℕ) → ℕ → State → List Piece → Type 0
 IsRoomBeforeEach blobs k st [] = Unit {0}
 IsRoomBeforeEach blobs k st (piece ∷ pieces) =
-    IfNoFault st.core.source.fault
-    (HasRoomForCall blobs st.core (AppendBuffer k piece)
+    IfNoFault st.source.fault
+    (HasRoomForCall blobs (core_of st) (AppendBuffer k piece)
     × IsRoomBeforeEach blobs k (after_piece blobs k st piece) pieces)

@@ -10,7 +10,7 @@ use Rattle.track_buffers.specs.Buffered.{buffered_of, track_ranges}
 use Rattle.byte_stream.specs.Readings.{held_at}
 use Rattle.buffer_state.specs.State.{phase_in}
 use Rattle.source_buffers.specs.State.{BufferState, in_slot}
-use Rattle.mse_engine.specs.State.{Core, State}
+use Rattle.mse_engine.specs.State.{Core, State, core_of}
 use Rattle.mse_engine.specs.Scenes.{core_view, buffered_in, seekable_in}
 
 -- a source buffer: its tracks with their coded frames, the ranges of each and of all, the append state, and the bytes
@@ -41,13 +41,16 @@ buffer_outcome k c b = record {
 }
 
 -- of each buffer in the list of source buffers
-abbrev pub outcome_of : State → Outcome
-outcome_of st = record {
+abbrev pub core_outcome : Core → Outcome
+core_outcome c = record {
   buffers =
-      filter_map (λ k. option_map (buffer_outcome k st.core) (in_slot k st.core.buffers))
-      st.core.source.state.listed;
-  duration = st.core.source.state.duration;
-  fault = st.core.source.fault;
-  buffered = buffered_in (core_view st.core);
-  seekable = seekable_in (core_view st.core);
+      filter_map (λ k. option_map (buffer_outcome k c) (in_slot k c.buffers))
+      c.source.state.listed;
+  duration = c.source.state.duration;
+  fault = c.source.fault;
+  buffered = buffered_in (core_view c);
+  seekable = seekable_in (core_view c);
 }
+
+abbrev pub outcome_of : State → Outcome
+outcome_of st = core_outcome (core_of st)

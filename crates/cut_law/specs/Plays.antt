@@ -1,5 +1,5 @@
 -- The play of a script whose listeners make no calls: the state determines the entries of each line.
-use Rattle.std.specs.Prelude.{ℕ, zero, suc, Bool, true, false, List, [], ◌∷◌, ◌++◌, map, Option, Some, None}
+use Rattle.std.specs.Prelude.{ℕ, zero, suc, ◌+◌, Bool, true, false, List, [], ◌∷◌, ◌++◌, map, Option, Some, None}
 use Rattle.mse_calls.specs.declared.events.Event.{Event}
 use Rattle.mse_calls.specs.declared.entry.Entry.{Entry}
 use Rattle.mse_calls.specs.declared.entry.Entry.TheVariants.{Step, Script, Fired, Work, Element}
@@ -8,7 +8,7 @@ use Rattle.call_script.specs.declared.script.StepLine.TheVariants as step
 use Rattle.mse_engine.specs.State.{State}
 use Rattle.mse_engine.specs.Calls.{after_call}
 use Rattle.mse_engine.specs.Work.{after_work, after_element_turn, fire_result, running_in, is_turn_due}
-use Rattle.mse_engine.specs.Progress.{steps_left}
+use Rattle.mse_engine.specs.Progress.{turns_left, turns_left_in, work_left_in}
 use Rattle.mse_engine.specs.Run.{entry_meaning, after_entries, fire_entries, entries_if}
 
 -- the state behind an entry
@@ -42,8 +42,18 @@ entries_then go blobs st = entries_behind (next_entry st) (λ entry. go (after_e
 abbrev pub drain_in : ℕ → List (List ℕ) → State → List Entry
 drain_in zero blobs st = []
 drain_in (suc n) blobs st =
-    fired_entries st.outer.queue
-    ++ entries_then (drain_in n blobs) blobs (after_entries blobs st (fired_entries st.outer.queue))
+    fired_entries st.element.queue
+    ++ entries_then (drain_in n blobs) blobs (after_entries blobs st (fired_entries st.element.queue))
+
+-- the turns that can come where so much work and so many turns are left: behind work as many as of an element that has
+-- done none
+abbrev pub turns_behind : ℕ → ℕ → ℕ
+turns_behind zero turns = turns
+turns_behind (suc n) turns = turns_left true false
+
+-- the steps of work and turns that can come
+abbrev pub steps_left : State → ℕ
+steps_left st = work_left_in st + turns_behind (work_left_in st) (turns_left_in st)
 
 unfoldable pub drain_entries : List (List ℕ) → State → List Entry
 drain_entries blobs st = drain_in (suc (steps_left st)) blobs st

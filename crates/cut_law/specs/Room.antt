@@ -10,7 +10,7 @@ use Rattle.call_script.specs.declared.script.StepLine.{StepLine}
 use Rattle.call_script.specs.declared.script.StepLine.TheVariants as step
 use Rattle.buffer_state.specs.Calls.{is_full}
 use Rattle.source_buffers.specs.State.{BufferState, in_slot}
-use Rattle.mse_engine.specs.State.{Core, State}
+use Rattle.mse_engine.specs.State.{Core, State, core_of}
 use Rattle.cut_law.specs.Plays.{after_line}
 
 -- the buffer is not full; nothing is asked where there are no such bytes or no such buffer, since the call is refused
@@ -38,4 +38,4 @@ HasRoomForLine blobs c other = Unit {0}
 abbrev pub IsUnmet : List (List ℕ) → State → List StepLine → Type 0
 IsUnmet blobs st [] = Unit {0}
 IsUnmet blobs st (line ∷ lines) =
-    HasRoomForLine blobs st.core line × IsUnmet blobs (after_line blobs st line) lines
+    HasRoomForLine blobs (core_of st) line × IsUnmet blobs (after_line blobs st line) lines

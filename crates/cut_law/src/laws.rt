@@ -1,4 +1,4 @@
-//! What follows from the definitions of this crate and of the machine: functions that do nothing,
+//! Cutting the bytes of an append leaves the core of the machine's state. Functions that do nothing,
 //! with the laws as their contracts.
 
 ghost use Rattle.std.specs.Prelude.{◌≡◌, ◌≢◌, ℕ, ◌+◌, ◌≤◌, List, [], ◌∷◌, ◌++◌, length, slice_get, None, Some, IfSome};
@@ -7,7 +7,7 @@ ghost use Rattle.mse_calls.specs.declared.calls.Call.{Call};
 ghost use Rattle.mse_calls.specs.declared.calls.Piece.{Piece};
 ghost use Rattle.mse_calls.specs.declared.entry.Entry.{Entry};
 ghost use Rattle.call_script.specs.declared.script.StepLine.{StepLine};
-ghost use Rattle.mse_engine.specs.State.{State};
+ghost use Rattle.mse_engine.specs.State.{State, core_of};
 ghost use Rattle.mse_engine.specs.Calls.{after_call};
 ghost use Rattle.mse_engine.specs.Work.{after_element_turn, fire_result, running_in};
 ghost use Rattle.cut_law.specs.Cuts.{AreCuts, AreParts, IsOtherCut, IsAwaited, extent_of, stopped_lines};
@@ -18,32 +18,33 @@ ghost use Rattle.cut_law.specs.Room.{HasRoomForEntry, HasRoomForCall, IsUnmet, H
 
 /// What appending comes to follows from the core.
 pub fn outcome_law()
-    ensures { (a b : State) → a.core ≡ b.core → outcome_of a ≡ outcome_of b }
+    ensures { (a b : State) → core_of a ≡ core_of b → outcome_of a ≡ outcome_of b }
 {}
 
 /// An event that is fired, a turn of the element and the calls on the element leave the core.
 pub fn element_law()
-    ensures fire { (st : State) → IfSome (fire_result st) (λ fired. fired.state.core ≡ st.core) }
-    ensures turn { (st : State) → IfSome (after_element_turn st) (λ new. new.core ≡ st.core) }
+    ensures fire { (st : State)
+        → IfSome (fire_result st) (λ fired. core_of fired.state ≡ core_of st) }
+    ensures turn { (st : State) → IfSome (after_element_turn st) (λ new. core_of new ≡ core_of st) }
     ensures seek { (blobs : List (List ℕ)) (t : Moment) (st : State)
-        → (after_call blobs (Call.Seek t) st).state.core ≡ st.core }
+        → core_of (after_call blobs (Call.Seek t) st).state ≡ core_of st }
     ensures play { (blobs : List (List ℕ)) (st : State)
-        → (after_call blobs Call.Play st).state.core ≡ st.core }
+        → core_of (after_call blobs Call.Play st).state ≡ core_of st }
     ensures pause { (blobs : List (List ℕ)) (st : State)
-        → (after_call blobs Call.Pause st).state.core ≡ st.core }
+        → core_of (after_call blobs Call.Pause st).state ≡ core_of st }
     ensures advance { (blobs : List (List ℕ)) (t : Moment) (st : State)
-        → (after_call blobs (Call.Advance t) st).state.core ≡ st.core }
+        → core_of (after_call blobs (Call.Advance t) st).state ≡ core_of st }
 {}
 
 /// Where no buffer is full just before an append, the core behind an entry, or behind a line of a
 /// script whose listeners make no calls, follows from the core before it.
 pub fn core_law()
-    ensures entry { (blobs : List (List ℕ)) (a b : State) (entry : Entry) → a.core ≡ b.core
-        → HasRoomForEntry blobs a.core entry
-        → (after_entry blobs a entry).core ≡ (after_entry blobs b entry).core }
-    ensures line { (blobs : List (List ℕ)) (a b : State) (line : StepLine) → a.core ≡ b.core
-        → HasRoomForLine blobs a.core line
-        → (after_line blobs a line).core ≡ (after_line blobs b line).core }
+    ensures entry { (blobs : List (List ℕ)) (a b : State) (entry : Entry) → core_of a ≡ core_of b
+        → HasRoomForEntry blobs (core_of a) entry
+        → core_of (after_entry blobs a entry) ≡ core_of (after_entry blobs b entry) }
+    ensures line { (blobs : List (List ℕ)) (a b : State) (line : StepLine) → core_of a ≡ core_of b
+        → HasRoomForLine blobs (core_of a) line
+        → core_of (after_line blobs a line) ≡ core_of (after_line blobs b line) }
 {}
 
 /// Cutting the bytes of an awaited append anywhere leaves the core, where no buffer is full just
@@ -52,10 +53,10 @@ pub fn any_cutting()
     ensures once { (blobs : List (List ℕ)) (st : State) (s t : List StepLine)
         (c : IsOtherCut blobs s t)
         → IsAwaited blobs st c.front → IsUnmet blobs st s → IsUnmet blobs st t
-        → (play_of blobs st t).core ≡ (play_of blobs st s).core }
+        → core_of (play_of blobs st t) ≡ core_of (play_of blobs st s) }
     ensures again { (blobs : List (List ℕ)) (st : State) (s t : List StepLine)
         (steps : List (List StepLine)) → IsUnmet blobs st s → AreCuts blobs st s steps t
-        → (play_of blobs st t).core ≡ (play_of blobs st s).core }
+        → core_of (play_of blobs st t) ≡ core_of (play_of blobs st s) }
 {}
 
 /// Where one stops appending the parts of an awaited append behind one that brought an error, and
@@ -65,8 +66,8 @@ pub fn stopped_parts()
         (others left : List Piece) → c.back ≡ [] → c.others ≡ others ++ left
         → IsAwaited blobs st c.front → IsUnmet blobs st s
         → IsUnmet blobs st (stopped_lines c others)
-        → (play_of blobs st (stopped_lines c others)).core.source.error ≢ 0
-        → (play_of blobs st (stopped_lines c others)).core ≡ (play_of blobs st s).core }
+        → (core_of (play_of blobs st (stopped_lines c others))).source.error ≢ 0
+        → core_of (play_of blobs st (stopped_lines c others)) ≡ core_of (play_of blobs st s) }
 {}
 
 /// A file that is appended piece by piece up to the first fault comes to what appending it at once
@@ -77,10 +78,11 @@ pub fn file_parts()
         → slice_get blobs whole.blob ≡ Some bytes
         → extent_of whole.part bytes ≡ (start, total) → start + total ≤ length bytes
         → AreParts whole.blob bytes start total (first ∷ others) → running_in st ≡ None
-        → st.core.source.fault ≡ None → st.core.source.error ≡ 0
-        → HasRoomForCall blobs st.core (Call.AppendBuffer k whole)
+        → st.source.fault ≡ None → (core_of st).source.error ≡ 0
+        → HasRoomForCall blobs (core_of st) (Call.AppendBuffer k whole)
         → IsRoomBeforeEach blobs k st (first ∷ others)
-        → (after_pieces blobs k st (first ∷ others)).core ≡ (after_piece blobs k st whole).core }
+        → core_of (after_pieces blobs k st (first ∷ others))
+        ≡ core_of (after_piece blobs k st whole) }
 {}
 
 /// The law needs its premises: without "awaited" it does not hold, and without "no buffer is full"
@@ -88,8 +90,8 @@ pub fn file_parts()
 pub fn needed_premises()
     ensures awaited { ((blobs : List (List ℕ)) (st : State) (s t : List StepLine)
         → IsOtherCut blobs s t → IsUnmet blobs st s → IsUnmet blobs st t
-        → (play_of blobs st t).core ≡ (play_of blobs st s).core) → ⊥ }
+        → core_of (play_of blobs st t) ≡ core_of (play_of blobs st s)) → ⊥ }
     ensures cut_has_room { ((blobs : List (List ℕ)) (st : State) (s t : List StepLine)
         (c : IsOtherCut blobs s t) → IsAwaited blobs st c.front
-        → (play_of blobs st t).core ≡ (play_of blobs st s).core) → ⊥ }
+        → core_of (play_of blobs st t) ≡ core_of (play_of blobs st s)) → ⊥ }
 {}

@@ -11,18 +11,18 @@ use Rattle.mse_calls.specs.declared.views.FaultView.{FaultView}
 use Rattle.event_text.specs.Block.{closing_text}
 use Rattle.bmff_boxes.specs.Headers.{header_of}
 use Rattle.segment_walk.specs.Segments.{segment_parse, items_of_string}
-use Rattle.mse_engine.specs.State.{Core, Outer, State, opening_state}
+use Rattle.mse_engine.specs.State.{Core, State, opening_state, core_of, source_of}
 use Rattle.mse_engine.specs.Run.{after_entries}
 use Rattle.mse_engine.specs.Views.{view_in}
 use Rattle.mse_engine.proofs.Transitions.{after_entries-append}
 use Rattle.script_run.specs.Writes.{IsWritten}
 use Rattle.cut_law.specs.Cuts.{AreParts}
 use Rattle.cut_law.specs.Files.{after_piece, after_pieces, unless_fault}
-use Rattle.play_law.proofs.Singles.{append-drained}
-use Rattle.file_law.specs.Rooms.{IsFresh, whole_of}
+use Rattle.cut_law.proofs.Singles.{append-drained}
+use Rattle.cut_law.specs.FileRooms.{IsFresh, whole_of}
 use Rattle.cut_law.proofs.Drains.{drain_core}
 use Rattle.cut_law.proofs.Journals.{append_some}
-use Rattle.file_law.proofs.Wholes.{behind, in-parts, one-piece, whole-core}
+use Rattle.cut_law.proofs.WholeFiles.{behind, in-parts, one-piece, whole-core}
 use Rattle.mse_commands.specs.declared.ending.Status.{Status}
 use Rattle.mse_commands.specs.declared.ending.Status.TheVariants as status
 use Rattle.mse_commands.specs.declared.words.Command.{Command}
@@ -39,16 +39,16 @@ use Rattle.mse_commands.proofs.Pieces.{HasNext, IsLeft, all_left, next_left, non
 
 -- ---- a journal comes to what its pieces come to
 
-stays : (blobs : List (List ℕ)) (st : State) (fault : FaultView) (pieces : List Piece) → st.core.source.fault ≡ Some fault → after_pieces blobs 0 st pieces ≡ st
+stays : (blobs : List (List ℕ)) (st : State) (fault : FaultView) (pieces : List Piece) → st.source.fault ≡ Some fault → after_pieces blobs 0 st pieces ≡ st
 stays blobs st fault [] e = refl
 stays blobs st fault (piece ∷ pieces) e = ap (λ o. unless_fault o st (after_pieces blobs 0 (after_piece blobs 0 st piece) pieces)) e
 
-rest-is : (o : Option FaultView) (blobs : List (List ℕ)) (st : State) (pieces : List Piece) (rest : List Entry) → st.core.source.fault ≡ o → IsEndOrGoesOn o rest (IsAppends blobs st pieces rest)
-    → (st.core.source.fault ≡ None → IsAppends blobs st pieces rest → after_entries blobs st rest ≡ after_pieces blobs 0 st pieces) → after_entries blobs st rest ≡ after_pieces blobs 0 st pieces
+rest-is : (o : Option FaultView) (blobs : List (List ℕ)) (st : State) (pieces : List Piece) (rest : List Entry) → st.source.fault ≡ o → IsEndOrGoesOn o rest (IsAppends blobs st pieces rest)
+    → (st.source.fault ≡ None → IsAppends blobs st pieces rest → after_entries blobs st rest ≡ after_pieces blobs 0 st pieces) → after_entries blobs st rest ≡ after_pieces blobs 0 st pieces
 rest-is None blobs st pieces rest e u f = f e u
 rest-is (Some fault) blobs st pieces rest e u f = ap (λ es. after_entries blobs st es) u ∙ sym (stays blobs st fault pieces e)
 
-appends-are : (pieces : List Piece) (blobs : List (List ℕ)) (st : State) (entries : List Entry) → st.core.source.fault ≡ None → IsAppends blobs st pieces entries → after_entries blobs st entries ≡ after_pieces blobs 0 st pieces
+appends-are : (pieces : List Piece) (blobs : List (List ℕ)) (st : State) (entries : List Entry) → st.source.fault ≡ None → IsAppends blobs st pieces entries → after_entries blobs st entries ≡ after_pieces blobs 0 st pieces
 appends-are [] blobs st entries none a = ap (λ es. after_entries blobs st es) a
 appends-are (piece ∷ pieces) blobs st entries none a =
     let here : List Entry = append_entry piece a.0 ∷ a.1 in
@@ -56,7 +56,7 @@ appends-are (piece ∷ pieces) blobs st entries none a =
     let one : new ≡ after_piece blobs 0 st piece = append-drained blobs 0 st piece a.0 a.1 a.4.drain a.4.calls in
     ap (λ es. after_entries blobs st es) a.3
     ∙ after_entries-append blobs st here a.2
-    ∙ rest-is new.core.source.fault blobs new pieces a.2 refl a.5 (λ n b. appends-are pieces blobs new a.2 n b)
+    ∙ rest-is new.source.fault blobs new pieces a.2 refl a.5 (λ n b. appends-are pieces blobs new a.2 n b)
     ∙ ap (λ s. after_pieces blobs 0 s pieces) one
     ∙ sym (ap (λ o. unless_fault o st (after_pieces blobs 0 (after_piece blobs 0 st piece) pieces)) none)
 
@@ -117,40 +117,40 @@ no-items : items_of_string None [] ≡ []
 unfolding segment_parse header_of
 no-items = refl
 
-empty-drain : drain_core (append_some (Some []) 0 (opened ([] ∷ [])).core) ≡ (opened ([] ∷ [])).core
+empty-drain : drain_core (append_some (Some []) 0 (core_of (opened ([] ∷ [])))) ≡ core_of (opened ([] ∷ []))
 unfolding segment_parse header_of
 empty-drain = refl
 
-empty-whole : (after_pieces ([] ∷ []) 0 (opened ([] ∷ [])) (whole_of 0 ∷ [])).core ≡ (opened ([] ∷ [])).core
+empty-whole : core_of (after_pieces ([] ∷ []) 0 (opened ([] ∷ [])) (whole_of 0 ∷ [])) ≡ core_of (opened ([] ∷ []))
 empty-whole =
-    ap (λ (s : State). s.core) (one-piece ([] ∷ []) 0 (opened ([] ∷ [])) (whole_of 0) refl)
+    ap (λ (s : State). core_of s) (one-piece ([] ∷ []) 0 (opened ([] ∷ [])) (whole_of 0) refl)
     ∙ whole-core [] 0 (opened ([] ∷ [])) (omega arith) (fresh ([] ∷ []))
     ∙ empty-drain
 
-empty-file : (bytes : List ℕ) → length bytes ≡ 0 → (opened (bytes ∷ [])).core ≡ (after_pieces (bytes ∷ []) 0 (opened (bytes ∷ [])) (whole_of 0 ∷ [])).core
+empty-file : (bytes : List ℕ) → length bytes ≡ 0 → core_of (opened (bytes ∷ [])) ≡ core_of (after_pieces (bytes ∷ []) 0 (opened (bytes ∷ [])) (whole_of 0 ∷ []))
 empty-file [] e = sym empty-whole
 empty-file (byte ∷ bytes) e = absurd (omega arith)
 
 -- ---- the core
 
 file-core-by : (pieces : List Piece) (bytes : List ℕ) → length bytes < 2 ^ 62 → AreParts 0 bytes 0 (length bytes) pieces
-    → (after_pieces (bytes ∷ []) 0 (opened (bytes ∷ [])) pieces).core ≡ (after_pieces (bytes ∷ []) 0 (opened (bytes ∷ [])) (whole_of 0 ∷ [])).core
+    → core_of (after_pieces (bytes ∷ []) 0 (opened (bytes ∷ [])) pieces) ≡ core_of (after_pieces (bytes ∷ []) 0 (opened (bytes ∷ [])) (whole_of 0 ∷ []))
 file-core-by [] bytes short p = empty-file bytes p
 file-core-by (piece ∷ pieces) bytes short p = in-parts bytes 0 (opened (bytes ∷ [])) piece pieces short p (fresh (bytes ∷ []))
 
 file-core : (command : Command) (bytes : List ℕ) (entries : List Entry) → length bytes < 2 ^ 62 → IsJournalOf command bytes entries
-    → (last_state (ByFile command bytes) entries).core ≡ (after_pieces (bytes ∷ []) 0 (opened (bytes ∷ [])) (whole_of 0 ∷ [])).core
+    → core_of (last_state (ByFile command bytes) entries) ≡ core_of (after_pieces (bytes ∷ []) 0 (opened (bytes ∷ [])) (whole_of 0 ∷ []))
 file-core command bytes entries short j =
-    ap (λ (s : State). s.core) (journal-is command bytes entries j) ∙ file-core-by (pieces_by command (length bytes)) bytes short (pieces-parts command bytes j.appends j.number)
+    ap (λ (s : State). core_of s) (journal-is command bytes entries j) ∙ file-core-by (pieces_by command (length bytes)) bytes short (pieces-parts command bytes j.appends j.number)
 
 pub one-core : (a b : Command) (bytes : List ℕ) (entries others : List Entry) → length bytes < 2 ^ 62 → IsJournalOf a bytes entries → IsJournalOf b bytes others
-    → (last_state (ByFile a bytes) entries).core ≡ (last_state (ByFile b bytes) others).core
+    → core_of (last_state (ByFile a bytes) entries) ≡ core_of (last_state (ByFile b bytes) others)
 one-core a b bytes entries others short p q = file-core a bytes entries short p ∙ sym (file-core b bytes others short q)
 
 -- ---- the text
 
-core-text : (c d : Core) (o p : Outer) → c ≡ d → closing_text (view_in (record { core = c; outer = o })) false ≡ closing_text (view_in (record { core = d; outer = p })) false
-core-text c d o p e = ap (λ (x : Core). closing_text (view_in (record { core = x; outer = o })) false) e
+core-text : (a b : State) → core_of a ≡ core_of b → closing_text (view_in a) false ≡ closing_text (view_in b) false
+core-text a b e = ap (λ (c : Core). closing_text (view_in (record { source = source_of c.source; buffers = c.buffers; element = a.element })) false) e
 
 block-is : (command : Command) (bytes : List ℕ) (entries : List Entry) → IsAppendCommand command → text_of (ByFile command bytes) entries ≡ closing_text (view_in (last_state (ByFile command bytes) entries)) false
 block-is Ranges bytes entries a = refl
@@ -160,22 +160,22 @@ block-is Play bytes entries a = absurd a
 block-is Remux bytes entries a = absurd a
 block-is (Feed at) bytes entries a = absurd a
 
-same-text : (a b : Command) (bytes others : List ℕ) (xs ys : List Entry) → IsAppendCommand a → IsAppendCommand b → (last_state (ByFile a bytes) xs).core ≡ (last_state (ByFile b others) ys).core
+same-text : (a b : Command) (bytes others : List ℕ) (xs ys : List Entry) → IsAppendCommand a → IsAppendCommand b → core_of (last_state (ByFile a bytes) xs) ≡ core_of (last_state (ByFile b others) ys)
     → text_of (ByFile a bytes) xs ≡ text_of (ByFile b others) ys
 same-text a b bytes others xs ys p q e =
     let s : State = last_state (ByFile a bytes) xs in
     let t : State = last_state (ByFile b others) ys in
-    block-is a bytes xs p ∙ core-text s.core t.core s.outer t.outer e ∙ sym (block-is b others ys q)
+    block-is a bytes xs p ∙ core-text s t e ∙ sym (block-is b others ys q)
 
 pub one-text : (a b : Command) (bytes : List ℕ) (entries others : List Entry) → length bytes < 2 ^ 62 → IsJournalOf a bytes entries → IsJournalOf b bytes others
     → text_of (ByFile a bytes) entries ≡ text_of (ByFile b bytes) others
 one-text a b bytes entries others short p q = same-text a b bytes bytes entries others p.appends q.appends (one-core a b bytes entries others short p q)
 
 pub fault-text : (a b : Command) (bytes more : List ℕ) (entries others : List Entry) → length (bytes ++ more) < 2 ^ 62 → length bytes < 2 ^ 62 → IsJournalOf a bytes entries
-    → IsSome (last_state (ByFile a bytes) entries).core.source.fault → IsJournalOf b (bytes ++ more) others → text_of (ByFile b (bytes ++ more)) others ≡ text_of (ByFile a bytes) entries
+    → IsSome (last_state (ByFile a bytes) entries).source.fault → IsJournalOf b (bytes ++ more) others → text_of (ByFile b (bytes ++ more)) others ≡ text_of (ByFile a bytes) entries
 fault-text a b bytes more entries others long short p fault q =
     let whole = file-core a bytes entries short p in
-    let broken : IsSome (after_pieces (bytes ∷ []) 0 (opened (bytes ∷ [])) (whole_of 0 ∷ [])).core.source.fault = subst (λ (c : Core). IsSome c.source.fault) whole fault in
+    let broken : IsSome (after_pieces (bytes ∷ []) 0 (opened (bytes ∷ [])) (whole_of 0 ∷ [])).source.fault = subst (λ (c : Core). IsSome c.source.fault) whole fault in
     same-text b a (bytes ++ more) bytes others entries q.appends p.appends
     (file-core b (bytes ++ more) others long q ∙ behind bytes more 0 (opened (bytes ∷ [])) long (fresh (bytes ∷ [])) broken ∙ sym whole)
 
@@ -248,7 +248,7 @@ not-some (Some fault) h = absurd (h refl)
 record IsFileRunToEnd (command : Command) (bytes : List ℕ) (left : RunOutcome) (end : Status) : Type 0 where
   journal : IsJournalOf command bytes left.entries
   wrote : IsWritten (text_of (ByFile command bytes) left.entries) left.before.written left.now.written
-  end_is : end ≡ status_by (is_some (last_state (ByFile command bytes) left.entries).core.source.fault)
+  end_is : end ≡ status_by (is_some (last_state (ByFile command bytes) left.entries).source.fault)
 
 ran-file : (n : ℕ) (request : Request) (command : Command) (bytes : List ℕ) (left : RunOutcome) (end : Status) → IsAppendCommand command → IsInRange command → IsThrough end → IsEndOfTask n request (ByFile command bytes) left end → IsFileRunToEnd command bytes left end
 ran-file n request command bytes left end a r (inl e) ends =
@@ -256,7 +256,7 @@ ran-file n request command bytes left end a r (inl e) ends =
     record {
       journal = record { appends = a; number = r; whole = all.0.all };
       wrote = all.0.wrote;
-      end_is = e ∙ ap status_by (sym (not-some (last_state (ByFile command bytes) left.entries).core.source.fault all.1));
+      end_is = e ∙ ap status_by (sym (not-some (last_state (ByFile command bytes) left.entries).source.fault all.1));
     }
 ran-file n request command bytes left end a r (inr e) ends =
     let all = subst (λ (x : Status). IsEndOfTask n request (ByFile command bytes) left x) e ends in

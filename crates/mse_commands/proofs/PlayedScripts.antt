@@ -18,7 +18,7 @@ use Rattle.script_run.specs.Rules.{rules_of_listener, rules_for}
 use Rattle.listeners.specs.Views.{RunView}
 use Rattle.script_run.specs.RunStates.{RunState, run_at}
 use Rattle.script_run.specs.Writes.{IsWritten, IsFrontWritten}
-use Rattle.script_run.proofs.Writing.{front_more}
+use Rattle.script_run.proofs.PutLines.{front_more}
 use Rattle.mse_commands.specs.Endings.{end_of_halt, end_of_stop}
 use Rattle.mse_commands.specs.Outcomes.{AreRulesOfNumbers}
 use Rattle.mse_commands.specs.Works.{IsScriptShowResult, ScriptInputs, lines_front}

@@ -4,7 +4,7 @@ use Rattle.mse_outside.specs.Outside.{HasRisen}
 use Rattle.mse_calls.specs.declared.entry.Entry.{Entry}
 use Rattle.call_script.specs.declared.script.Script.{Script as CallScript}
 use Rattle.script_run.specs.Turns.{calls_in}
-use Rattle.play_law.specs.Silent.{AreCutsAlike}
+use Rattle.cut_law.specs.Silent.{AreCutsAlike}
 use Rattle.mse_commands.specs.declared.ending.End.{End}
 use Rattle.mse_commands.specs.declared.ending.Status.{Status}
 use Rattle.mse_commands.specs.declared.ending.Status.TheVariants as status
@@ -12,6 +12,7 @@ use Rattle.mse_commands.specs.Requests.{Request, Task, ByScript, opening_of}
 use Rattle.mse_commands.specs.Loads.{Failures}
 use Rattle.mse_commands.specs.Outcomes.{HasCause, IsBroken, RunOutcome, IsWholeRun}
 use Rattle.mse_commands.specs.Shown.{last_state}
+use Rattle.mse_engine.specs.State.{core_of}
 
 -- Nothing stands in the way of a task: neither the library nor the sink failed, of which `puts` has
 -- the counts, and no listener called too often.
@@ -46,4 +47,4 @@ IsCutAnywhere request entries end =
     → end ≡ status.Ok
     → calls_in entries ≡ 0
     → AreCutsAlike blobs (opening_of (ByScript script blobs)) script.steps
-    (last_state (ByScript script blobs) entries).core
+    (core_of (last_state (ByScript script blobs) entries))

@@ -14,7 +14,7 @@ tracks_of (Some media) = media.tracks
 
 -- the tracks of the one source buffer, in order of the first initialization segment
 abbrev pub tracks_in : State → List TrackState
-tracks_in st = tracks_of (in_slot 0 (media_of_all st.core.buffers))
+tracks_in st = tracks_of (in_slot 0 (media_of_all st.buffers))
 
 -- the lines of each track from a time on
 abbrev pub feeds_in : ℤ → State → List ℕ
@@ -22,4 +22,4 @@ feeds_in at st = flat_map (feed_text at) (tracks_in st)
 
 -- and then that of the first fault
 abbrev pub feed_closing : ℤ → State → List ℕ
-feed_closing at st = feeds_in at st ++ fault_lines st.core.source.fault
+feed_closing at st = feeds_in at st ++ fault_lines st.source.fault

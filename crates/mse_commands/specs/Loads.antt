@@ -45,6 +45,12 @@ IsScriptEnd table faults name (Script fault) =
 IsScriptEnd table faults name other =
     IsLoadEnd table faults (name ∷ []) (λ files. script_of_file files name) other
 
+-- how something ends of which a load has failed: so it says, or there was no memory for the name
+abbrev pub IsEndOfFailedLoad : End → Type 0
+IsEndOfFailedLoad (Read name) = ⊤
+IsEndOfFailedLoad Memory = ⊤
+IsEndOfFailedLoad other = ⊥
+
 -- What is made is the file of the number, and only memory may be wanting for it.
 abbrev pub IsMade : Command → List ℕ → Type 0
 IsMade (Make count) bytes = bytes ≡ made_bytes count

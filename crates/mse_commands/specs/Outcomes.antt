@@ -14,7 +14,7 @@ use Rattle.script_run.specs.declared.stop.Stop.TheVariants as stop
 use Rattle.script_run.specs.PlayedParts.{IsHeardUpTo, IsOverLimit}
 use Rattle.script_run.specs.Rules.{rules_of_listener, rules_for}
 use Rattle.script_run.specs.NoteHistory.{IsAllHeard}
-use Rattle.script_run.specs.Turns.{IsSpentInLine}
+use Rattle.script_run.specs.Turns.{HasCallsLeftInLine}
 use Rattle.script_run.specs.Writes.{IsWritten, IsFrontWritten}
 use Rattle.mse_commands.specs.declared.ending.End.{End}
 use Rattle.mse_commands.specs.declared.ending.End.TheVariants.{Memory, Write, Words, NoFile, Read, Script, CallBudget, TaskBudget}
@@ -106,7 +106,7 @@ AreRulesOfTask other outcome = outcome.now.rules ≡ outcome.before.rules
 -- event may have ended for want of memory, or, where the sink was wanting, at a limit of calls.
 abbrev pub IsHeardTo : Task → Halt → RunOutcome → Type 0
 IsHeardTo (ByScript script blobs) halt outcome =
-    IsHeardUpTo (IsSpentInLine script.drain) halt outcome.entries outcome.before.notes
+    IsHeardUpTo (HasCallsLeftInLine script.drain) halt outcome.entries outcome.before.notes
     outcome.now.notes
 IsHeardTo other halt outcome = outcome.now.notes ≡ outcome.before.notes
 
@@ -136,20 +136,20 @@ pub record IsNothingRun (outcome : RunOutcome) : Type 0 where
 abbrev pub IsBroken : Task → List Entry → Type 0
 IsBroken (ByScript script blobs) entries = ⊥
 IsBroken (ByFile command bytes) entries =
-    IsSome (last_state (ByFile command bytes) entries).core.source.fault
+    IsSome (last_state (ByFile command bytes) entries).source.fault
 IsBroken (ByRemux bytes) entries = IsErr (pieces_of_file bytes)
 
 -- ---- why a run ended early
 
--- A listener answered one call more than 1000 for one event, or one more than listeners may make in one line, and they
--- had made so many in this one.
+-- A listener answered one call more than 1000 for one event, or one more than listeners may make in one line, of which
+-- none was left in this one.
 abbrev pub HasCause : Task → RunOutcome → End → Type 0
 HasCause (ByScript script blobs) outcome (CallBudget k) =
-    IsOverLimit (IsSpentInLine script.drain)
+    IsOverLimit (HasCallsLeftInLine script.drain)
     (stop.CallBudget k) outcome.entries outcome.before.notes outcome.now.notes
 HasCause (ByScript script blobs) outcome (TaskBudget limit) =
     (limit ≡ script.drain)
-    × IsOverLimit (IsSpentInLine script.drain) stop.TaskBudget outcome.entries outcome.before.notes
+    × IsOverLimit (HasCallsLeftInLine script.drain) stop.TaskBudget outcome.entries outcome.before.notes
     outcome.now.notes
 HasCause task outcome end = ⊥
 

@@ -64,7 +64,7 @@ IsAppends blobs st (piece ∷ pieces) entries =
     × (entries ≡ append_entry piece answer ∷ (part ++ rest))
     × IsQuietDrain blobs (after_entries blobs st (append_entry piece answer ∷ [])) part
     × IsEndOrGoesOn
-    (after_entries blobs st (append_entry piece answer ∷ part)).core.source.fault
+    (after_entries blobs st (append_entry piece answer ∷ part)).source.fault
     rest
     (IsAppends blobs (after_entries blobs st (append_entry piece answer ∷ part)) pieces rest)
 

@@ -21,7 +21,7 @@ use Rattle.script_run.specs.Lines.{Limits, limits}
 use Rattle.listeners.specs.Views.{RunView}
 use Rattle.script_run.specs.PlayedParts.{PartFront, HasGrown, IsPlayed, IsPlayedUpTo, IsOwnStep, part_front}
 use Rattle.script_run.specs.RunStates.{PrintedRun, RunState}
-use Rattle.script_run.specs.Turns.{IsSpentInLine, calls_in}
+use Rattle.script_run.specs.Turns.{HasCallsLeftInLine, calls_in}
 use Rattle.script_run.specs.Writes.{IsWritten, IsFrontWritten}
 use Rattle.mse_commands.specs.declared.ending.End.{End}
 use Rattle.mse_commands.specs.declared.ending.End.TheVariants.{Memory, Write, Words, NoFile, Read, Script, CallBudget, TaskBudget}
@@ -77,7 +77,7 @@ pub record IsFileShown (command : Command) (bytes : List ℕ) (old new : Printed
     (broken : Bool) : Type 0 where
   pub appended : IsAppended bytes (pieces_by command (length bytes)) old.run new.run
   pub shown : IsAllShown (file_closing command (length bytes)) new.run old.written new.written
-  pub broken_is : (st : State) → Stands new.run.engine st → broken ≡ is_some st.core.source.fault
+  pub broken_is : (st : State) → Stands new.run.engine st → broken ≡ is_some st.source.fault
 
 -- a front was appended and nothing was written; or all was appended, and a front of it was written
 abbrev pub IsFileFrontShown : Command → List ℕ → PrintedRun → PrintedRun → Type 0
@@ -121,10 +121,10 @@ pub record IsScriptPlayed (inputs : ScriptInputs) (given : List (List Rule))
   pub shown : IsAllShown script_closing new.run middle new.written
   pub rules_are : AreRulesOfNumbers inputs.rules given
 
--- a front of the lines, and when listeners may make no further call
+-- a front of the lines, and how many calls listeners may still make
 abbrev pub lines_front : ScriptInputs → PartFront
 lines_front inputs = part_front (AreScriptLinesBegun inputs.blobs inputs.limits inputs.lines)
-    (IsSpentInLine inputs.limits.limit)
+    (HasCallsLeftInLine inputs.limits.limit)
 
 -- it stopped in a line, or behind the last one
 pub record IsScriptStopped (inputs : ScriptInputs) (given : List (List Rule)) (old new : RunState)
@@ -173,7 +173,7 @@ IsScriptShowResult inputs given old new (Err other) = ⊥
 abbrev pub is_broken_in : Task → List Entry → Bool
 is_broken_in (ByScript script blobs) entries = false
 is_broken_in (ByFile command bytes) entries =
-    is_some (last_state (ByFile command bytes) entries).core.source.fault
+    is_some (last_state (ByFile command bytes) entries).source.fault
 is_broken_in (ByRemux bytes) entries = is_err (pieces_of_file bytes)
 
 -- nothing was run and nothing was written

@@ -1,9 +1,10 @@
 //! What each command does, up to its end, without its error line.
 
-ghost use Rattle.std.specs.Prelude.{◌≡◌, ◌≤◌, ◌<◌, ◌++◌, ◌^◌, ℕ, List, [], pos, false, None, Some, Ok, IfSome, IfOk, IfErr, OnOk, OnErr, IsErrOf, length, map, string_bytes, vec_len};
+ghost use Rattle.std.specs.Prelude.{◌≡◌, ◌≤◌, ◌<◌, ◌++◌, ◌^◌, ℕ, List, [], pos, false, None, Some, Ok, IfSome, IfOk, IfErr, OnOk, OnErr, IsErrAnd, IsErrOf, length, map, string_bytes, vec_len};
 ghost use Rattle.event_text.specs.Block.{closing_text};
 ghost use Rattle.listeners.specs.declared.listener.Note.{Note};
 ghost use Rattle.listeners.specs.Dispatch.{notes_at};
+ghost use Rattle.listeners.specs.Ways.{AreByWay};
 ghost use Rattle.mse_calls.specs.declared.rules.Rule.{Rule};
 ghost use Rattle.mse_engine.specs.State.{State};
 ghost use Rattle.mse_engine.specs.Standing.{Stands};
@@ -13,7 +14,7 @@ ghost use Rattle.script_run.specs.RunStates.{printed_run, run_at};
 ghost use Rattle.script_run.specs.Writes.{IsWritten, IsFrontWritten};
 ghost use Rattle.mse_commands.specs.Requests.{IsFileCommand, HasRequestOfCommand, HasRequestOfWords, file_by, files_by};
 ghost use Rattle.mse_commands.specs.Heading.{heading_of};
-ghost use Rattle.mse_commands.specs.Loads.{IsMade, IsUnmade, IsLoadEnd, failures};
+ghost use Rattle.mse_commands.specs.Loads.{IsEndOfFailedLoad, IsMade, IsUnmade, IsLoadEnd, failures};
 ghost use Rattle.mse_commands.specs.Outcomes.{outcome, outcome_at, outside_of};
 ghost use Rattle.mse_commands.specs.Shown.{file_closing, pieces_by};
 ghost use Rattle.mse_commands.specs.Words.{IsInRange, command_of};
@@ -62,6 +63,7 @@ fn close<S: FrameStore, K: Sink>(
         (K.written sink.old) (K.written sink.new)) }
     ensures no_fewer_faults { K.faults sink.old ≤ K.faults sink.new }
     ensures cause { IsErrOf result Halt.Write → HasRisen (K.faults sink.old) (K.faults sink.new) }
+    ensures failures_told { ¬ IsErrOf result Halt.Write → K.faults sink.new ≡ K.faults sink.old }
 {
     let Ok(view) = engine.view() else {
         return Err(Halt::Memory);
@@ -115,6 +117,8 @@ fn file_for<L: Library>(
     ensures made { IfOk result (λ bytes. IsMade command.now bytes.items) }
     ensures unmade { IfErr result (IsUnmade command.now) }
     ensures no_fewer_faults { L.faults library.old ≤ L.faults library.new }
+    ensures failures_told { ¬ IsErrAnd result IsEndOfFailedLoad
+        → L.faults library.new ≡ L.faults library.old }
 {
     match *command {
         Command::Ranges | Command::Pieces(_) | Command::Feed(_) | Command::Play | Command::Remux =>
@@ -146,6 +150,7 @@ fn close_block<S: FrameStore, K: Sink>(
         (K.written sink.old) (K.written sink.new)) }
     ensures no_fewer_faults { K.faults sink.old ≤ K.faults sink.new }
     ensures cause { IsErrOf result Halt.Write → HasRisen (K.faults sink.old) (K.faults sink.new) }
+    ensures failures_told { ¬ IsErrOf result Halt.Write → K.faults sink.new ≡ K.faults sink.old }
 {
     match heading(alloc, command, len) {
         Ok(before) => close(alloc, engine, sink, before, false),
@@ -169,6 +174,7 @@ fn close_file<S: FrameStore, K: Sink>(
         (K.written sink.old) (K.written sink.new)) }
     ensures no_fewer_faults { K.faults sink.old ≤ K.faults sink.new }
     ensures cause { IsErrOf result Halt.Write → HasRisen (K.faults sink.old) (K.faults sink.new) }
+    ensures failures_told { ¬ IsErrOf result Halt.Write → K.faults sink.new ≡ K.faults sink.old }
 {
     match *command {
         Command::Feed(at) => close_feed(alloc, engine, sink, at),
@@ -195,6 +201,7 @@ fn show_file<S: FrameStore, K: Sink>(
         result }
     ensures no_fewer_faults { K.faults sink.old ≤ K.faults sink.new }
     ensures write { IsErrOf result End.Write → HasRisen (K.faults sink.old) (K.faults sink.new) }
+    ensures failed_puts_told { ¬ IsErrOf result End.Write → K.faults sink.new ≡ K.faults sink.old }
 {
     let len = file.len();
     let Ok(()) = append_file(alloc, run, command, file) else {
@@ -223,8 +230,13 @@ fn play_script<S: FrameStore, K: Sink>(
         (run_at run.old (K.written sink.old) (map (λ b. notes b) listeners.old.items))
         (run_at run.new (K.written sink.new) (map (λ b. notes b) listeners.new.items)) result }
     ensures count { vec_len listeners.new ≡ vec_len listeners.old }
+    ensures kinds { map (λ b. b.vtable) listeners.new.items
+        ≡ map (λ b. b.vtable) listeners.old.items }
+    ensures ways { map (λ b. way b) listeners.new.items ≡ map (λ b. way b) listeners.old.items }
+    ensures by_way { AreByWay way rules notes listeners.new.items }
     ensures no_fewer_faults { K.faults sink.old ≤ K.faults sink.new }
     ensures write { IsErrOf result End.Write → HasRisen (K.faults sink.old) (K.faults sink.new) }
+    ensures failed_puts_told { ¬ IsErrOf result End.Write → K.faults sink.new ≡ K.faults sink.old }
 {
     let limit = script.drain;
     let Ok(()) = give_rules(alloc, listeners, script.rules.into_vec()) else {
@@ -275,8 +287,11 @@ fn run_file<S: FrameStore, L: Library, K: Sink>(
     ensures no_fewer_read_faults { L.faults library.old ≤ L.faults library.new }
     ensures no_fewer_faults { K.faults sink.old ≤ K.faults sink.new }
     ensures write { IsErrOf result End.Write → HasRisen (K.faults sink.old) (K.faults sink.new) }
+    ensures failed_puts_told { ¬ IsErrOf result End.Write → K.faults sink.new ≡ K.faults sink.old }
     ensures read { (name : List ℕ) → IsErrOf result (End.Read name)
         → HasRisen (L.faults library.old) (L.faults library.new) }
+    ensures failed_loads_told { ¬ IsErrAnd result IsEndOfFailedLoad
+        → L.faults library.new ≡ L.faults library.old }
 {
     let file = match file_for(alloc, library, &command, name) {
         Ok(file) => file,
@@ -319,12 +334,19 @@ fn run_script<S: FrameStore, L: Library, K: Sink>(
         (library.old, sink.old, listeners.old.items)
         (library.new, sink.new, listeners.new.items)) result) }
     ensures count { vec_len listeners.new ≡ vec_len listeners.old }
+    ensures kinds { map (λ b. b.vtable) listeners.new.items
+        ≡ map (λ b. b.vtable) listeners.old.items }
+    ensures ways { map (λ b. way b) listeners.new.items ≡ map (λ b. way b) listeners.old.items }
+    ensures by_way { AreByWay way rules notes listeners.new.items }
     ensures words { ¬ IsErrOf result End.Words }
     ensures no_fewer_read_faults { L.faults library.old ≤ L.faults library.new }
     ensures no_fewer_faults { K.faults sink.old ≤ K.faults sink.new }
     ensures write { IsErrOf result End.Write → HasRisen (K.faults sink.old) (K.faults sink.new) }
+    ensures failed_puts_told { ¬ IsErrOf result End.Write → K.faults sink.new ≡ K.faults sink.old }
     ensures read { (name : List ℕ) → IsErrOf result (End.Read name)
         → HasRisen (L.faults library.old) (L.faults library.new) }
+    ensures failed_loads_told { ¬ IsErrAnd result IsEndOfFailedLoad
+        → L.faults library.new ≡ L.faults library.old }
 {
     let script = match load_script(alloc, library, name) {
         Ok(script) => script,
@@ -363,12 +385,19 @@ fn run_command<S: FrameStore, L: Library, K: Sink>(
         (library.old, sink.old, listeners.old.items)
         (library.new, sink.new, listeners.new.items)) result) }
     ensures count { vec_len listeners.new ≡ vec_len listeners.old }
+    ensures kinds { map (λ b. b.vtable) listeners.new.items
+        ≡ map (λ b. b.vtable) listeners.old.items }
+    ensures ways { map (λ b. way b) listeners.new.items ≡ map (λ b. way b) listeners.old.items }
+    ensures by_way { AreByWay way rules notes listeners.new.items }
     ensures words { ¬ IsErrOf result End.Words }
     ensures no_fewer_read_faults { L.faults library.old ≤ L.faults library.new }
     ensures no_fewer_faults { K.faults sink.old ≤ K.faults sink.new }
     ensures write { IsErrOf result End.Write → HasRisen (K.faults sink.old) (K.faults sink.new) }
+    ensures failed_puts_told { ¬ IsErrOf result End.Write → K.faults sink.new ≡ K.faults sink.old }
     ensures read { (name : List ℕ) → IsErrOf result (End.Read name)
         → HasRisen (L.faults library.old) (L.faults library.new) }
+    ensures failed_loads_told { ¬ IsErrAnd result IsEndOfFailedLoad
+        → L.faults library.new ≡ L.faults library.old }
 {
     match command {
         Command::Play => run_script(alloc, name, library, sink, listeners, engine, journal),
@@ -400,12 +429,19 @@ pub fn work<S: FrameStore, L: Library, K: Sink>(
         (library.old, sink.old, listeners.old.items)
         (library.new, sink.new, listeners.new.items)) result) }
     ensures count { vec_len listeners.new ≡ vec_len listeners.old }
+    ensures kinds { map (λ b. b.vtable) listeners.new.items
+        ≡ map (λ b. b.vtable) listeners.old.items }
+    ensures ways { map (λ b. way b) listeners.new.items ≡ map (λ b. way b) listeners.old.items }
+    ensures by_way { AreByWay way rules notes listeners.new.items }
     ensures words { IsErrOf result End.Words → command_of (map string_bytes words.now) ≡ None }
     ensures no_fewer_read_faults { L.faults library.old ≤ L.faults library.new }
     ensures no_fewer_faults { K.faults sink.old ≤ K.faults sink.new }
     ensures write { IsErrOf result End.Write → HasRisen (K.faults sink.old) (K.faults sink.new) }
+    ensures failed_puts_told { ¬ IsErrOf result End.Write → K.faults sink.new ≡ K.faults sink.old }
     ensures read { (name : List ℕ) → IsErrOf result (End.Read name)
         → HasRisen (L.faults library.old) (L.faults library.new) }
+    ensures failed_loads_told { ¬ IsErrAnd result IsEndOfFailedLoad
+        → L.faults library.new ≡ L.faults library.old }
 {
     let name = file_name(words);
     match read_command(words) {

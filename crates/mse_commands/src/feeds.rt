@@ -55,6 +55,7 @@ fn put_track<S: FrameStore, K: Sink>(
         (λ t. IsFrontWritten (feed_text at t) (K.written sink.old) (K.written sink.new))) }
     ensures no_fewer_faults { K.faults sink.old ≤ K.faults sink.new }
     ensures cause { IsErrOf result Halt.Write → HasRisen (K.faults sink.old) (K.faults sink.new) }
+    ensures failures_told { ¬ IsErrOf result Halt.Write → K.faults sink.new ≡ K.faults sink.old }
 {
     // The proof reads off this that the track is sound.
     engine.sound();
@@ -77,6 +78,7 @@ fn put_tracks<S: FrameStore, K: Sink>(
         → OnErr result (IsFrontWritten (feeds_in at st) (K.written sink.old) (K.written sink.new)) }
     ensures no_fewer_faults { K.faults sink.old ≤ K.faults sink.new }
     ensures cause { IsErrOf result Halt.Write → HasRisen (K.faults sink.old) (K.faults sink.new) }
+    ensures failures_told { ¬ IsErrOf result Halt.Write → K.faults sink.new ≡ K.faults sink.old }
 {
     let Ok(count) = track_count(engine) else {
         return Err(Halt::Memory);
@@ -98,6 +100,7 @@ fn put_fault<K: Sink>(alloc: Global, sink: &mut K, fault: Option<FaultView>) -> 
         (K.written sink.new)) }
     ensures no_fewer_faults { K.faults sink.old ≤ K.faults sink.new }
     ensures cause { IsErrOf result Halt.Write → HasRisen (K.faults sink.old) (K.faults sink.new) }
+    ensures failures_told { ¬ IsErrOf result Halt.Write → K.faults sink.new ≡ K.faults sink.old }
 {
     let Some(fault) = fault else {
         return Ok(());
@@ -122,6 +125,7 @@ pub fn close_feed<S: FrameStore, K: Sink>(
         (K.written sink.new)) }
     ensures no_fewer_faults { K.faults sink.old ≤ K.faults sink.new }
     ensures cause { IsErrOf result Halt.Write → HasRisen (K.faults sink.old) (K.faults sink.new) }
+    ensures failures_told { ¬ IsErrOf result Halt.Write → K.faults sink.new ≡ K.faults sink.old }
 {
     match put_tracks(alloc, engine, sink, at) {
         Ok(()) => {}

@@ -4,6 +4,7 @@ ghost use Rattle.std.specs.Prelude.{◌≡◌, ◌≤◌, ◌<◌, ◌^◌, ℕ,
 ghost use Rattle.std.specs.Fmt.{decimal};
 ghost use Rattle.mse_outside.specs.Outside.{Table};
 ghost use Rattle.mse_calls.specs.declared.entry.Entry.{Entry};
+ghost use Rattle.mse_engine.specs.State.{core_of};
 ghost use Rattle.mse_commands.specs.declared.ending.Status.{Status};
 ghost use Rattle.mse_commands.specs.declared.words.Command.{Command};
 ghost use Rattle.mse_commands.specs.Requests.{ByFile};
@@ -28,7 +29,8 @@ pub fn numbers_in_words()
 pub fn one_block()
     ensures core { (a b : Command) (bytes : List ℕ) (entries others : List Entry)
         → length bytes < 2 ^ 62 → IsJournalOf a bytes entries → IsJournalOf b bytes others
-        → (last_state (ByFile a bytes) entries).core ≡ (last_state (ByFile b bytes) others).core }
+        → core_of (last_state (ByFile a bytes) entries)
+        ≡ core_of (last_state (ByFile b bytes) others) }
     ensures text { (a b : Command) (bytes : List ℕ) (entries others : List Entry)
         → length bytes < 2 ^ 62 → IsJournalOf a bytes entries → IsJournalOf b bytes others
         → text_of (ByFile a bytes) entries ≡ text_of (ByFile b bytes) others }
@@ -43,7 +45,7 @@ pub fn one_block()
 pub fn behind_a_fault()
     ensures { (a b : Command) (bytes more : List ℕ) (entries others : List Entry)
         → length (bytes ++ more) < 2 ^ 62 → IsJournalOf a bytes entries
-        → IsSome (last_state (ByFile a bytes) entries).core.source.fault
+        → IsSome (last_state (ByFile a bytes) entries).source.fault
         → IsJournalOf b (bytes ++ more) others
         → text_of (ByFile b (bytes ++ more)) others ≡ text_of (ByFile a bytes) entries }
 {}

@@ -1,8 +1,8 @@
 //! Files, scripts and blobs of the library.
 
-ghost use Rattle.std.specs.Prelude.{◌≡◌, ◌≤◌, ◌⊎◌, ◌∷◌, [], length, Ok, IfSome, IfOk, IfErr};
+ghost use Rattle.std.specs.Prelude.{◌≡◌, ◌≤◌, ◌⊎◌, ◌∷◌, [], length, Ok, IfSome, IfOk, IfErr, IsErrAnd};
 ghost use Rattle.mse_commands.specs.Requests.{IsReadOf, blob_bytes, blobs_bytes, files_in, file_bytes, script_of_file};
-ghost use Rattle.mse_commands.specs.Loads.{IsLoadEnd, IsScriptEnd, failures};
+ghost use Rattle.mse_commands.specs.Loads.{IsEndOfFailedLoad, IsLoadEnd, IsScriptEnd, failures};
 
 use crate::ending::End;
 use call_script::{BlobText, Script, ScriptError, read_script};
@@ -43,6 +43,8 @@ pub fn load<L: Library>(alloc: Global, library: &mut L, name: &str) -> Result<Ve
         (failures (L.faults library.old) (L.faults library.new))
         (name.now ∷ []) (λ files. file_bytes files name.now)) }
     ensures no_fewer_faults { L.faults library.old ≤ L.faults library.new }
+    ensures failures_told { ¬ IsErrAnd result IsEndOfFailedLoad
+        → L.faults library.new ≡ L.faults library.old }
 {
     let mut bytes = Vec::new(alloc);
     match library.load(name, &mut bytes) {
@@ -64,6 +66,8 @@ pub fn load_script<L: Library>(alloc: Global, library: &mut L, name: &str) -> Re
     ensures early_end { IfErr result (IsScriptEnd (L.table library.old)
         (failures (L.faults library.old) (L.faults library.new)) name.now) }
     ensures no_fewer_faults { L.faults library.old ≤ L.faults library.new }
+    ensures failures_told { ¬ IsErrAnd result IsEndOfFailedLoad
+        → L.faults library.new ≡ L.faults library.old }
 {
     let bytes = match load(alloc, library, name) {
         Ok(bytes) => bytes,
@@ -85,6 +89,8 @@ fn load_blob<L: Library>(alloc: Global, library: &mut L, text: &BlobText) -> Res
         (failures (L.faults library.old) (L.faults library.new))
         (files_in (text.now ∷ [])) (λ files. blob_bytes files text.now)) }
     ensures no_fewer_faults { L.faults library.old ≤ L.faults library.new }
+    ensures failures_told { ¬ IsErrAnd result IsEndOfFailedLoad
+        → L.faults library.new ≡ L.faults library.old }
 {
     match text {
         BlobText::File(name) => match load(alloc, library, name.as_str()) {
@@ -118,6 +124,8 @@ pub fn load_blobs<L: Library>(
         (failures (L.faults library.old) (L.faults library.new))
         (files_in texts.now) (λ files. blobs_bytes files texts.now)) }
     ensures no_fewer_faults { L.faults library.old ≤ L.faults library.new }
+    ensures failures_told { ¬ IsErrAnd result IsEndOfFailedLoad
+        → L.faults library.new ≡ L.faults library.old }
 {
     let mut blobs = Blobs::new(alloc);
     for text in texts {

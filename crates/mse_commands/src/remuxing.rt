@@ -1,12 +1,13 @@
 //! A classic file as fragments.
 
-ghost use Rattle.std.specs.Prelude.{◌≡◌, ◌≤◌, ℕ, List, [], None, Some, IfOk, OnOk, OnErr, IsErrOf, is_err};
+ghost use Rattle.std.specs.Prelude.{◌≡◌, ◌≤◌, ℕ, List, [], None, Some, IfOk, OnOk, OnErr, IsErrAnd, IsErrOf, is_err};
 ghost use Rattle.std.specs.List.{flat_map};
 ghost use Rattle.listeners.specs.declared.listener.Note.{Note};
 ghost use Rattle.mse_calls.specs.declared.rules.Rule.{Rule};
 ghost use Rattle.mse_outside.specs.Outside.{HasRisen};
 ghost use Rattle.remux.specs.Pieces.{pieces_of_file};
 ghost use Rattle.script_run.specs.Writes.{IsWritten, IsFrontWritten};
+ghost use Rattle.mse_commands.specs.Loads.{IsEndOfFailedLoad};
 ghost use Rattle.mse_commands.specs.Requests.{HasRequestOfCommand};
 ghost use Rattle.mse_commands.specs.Outcomes.{outcome, outside_of};
 ghost use Rattle.mse_commands.specs.Remuxing.{remux_fault_line, remux_text};
@@ -18,26 +19,46 @@ use crate::remux_fault::remux_fault_line;
 use crate::words::Command;
 use mse_base::Bytes;
 use mse_outside::{Library, Sink};
-use remux::{RemuxError, RemuxFault, remux};
+use remux::{ClassicFile, FragmentedFile, RemuxError, RemuxFault};
 use script_run::{Halt, put_bytes};
 use std::alloc::Global;
 
-/// Puts the pieces of a fragmented file, each with one put.
-fn put_pieces<K: Sink>(sink: &mut K, pieces: &[Bytes]) -> Result<(), Halt>
-    ensures ok { OnOk result (IsWritten (flat_map (λ piece. piece) pieces.now)
+/// Makes the pieces of a fragmented file one by one, and puts each with one put.
+fn put_pieces<K: Sink>(sink: &mut K, file: &FragmentedFile<'_>) -> Result<(), Halt>
+    ensures ok { OnOk result (IsWritten (flat_map (λ piece. piece) file.now)
         (K.written sink.old) (K.written sink.new)) }
-    ensures err { OnErr result (IsFrontWritten (flat_map (λ piece. piece) pieces.now)
+    ensures err { OnErr result (IsFrontWritten (flat_map (λ piece. piece) file.now)
         (K.written sink.old) (K.written sink.new)) }
     ensures no_fewer_faults { K.faults sink.old ≤ K.faults sink.new }
     ensures cause { IsErrOf result Halt.Write → HasRisen (K.faults sink.old) (K.faults sink.new) }
+    ensures failures_told { ¬ IsErrOf result Halt.Write → K.faults sink.new ≡ K.faults sink.old }
 {
-    for piece in pieces {
+    for i in 0..file.piece_count() {
+        let Ok(piece) = file.piece(i) else {
+            return Err(Halt::Memory);
+        };
         match put_bytes(sink, piece.as_slice()) {
             Ok(()) => {}
             Err(halt) => return Err(halt),
         }
     }
     Ok(())
+}
+
+/// Puts a classic file as fragments.
+fn put_fragmented<K: Sink>(alloc: Global, sink: &mut K, file: &ClassicFile) -> Result<(), Halt>
+    ensures ok { OnOk result (IsWritten (flat_map (λ piece. piece) file.now)
+        (K.written sink.old) (K.written sink.new)) }
+    ensures err { OnErr result (IsFrontWritten (flat_map (λ piece. piece) file.now)
+        (K.written sink.old) (K.written sink.new)) }
+    ensures no_fewer_faults { K.faults sink.old ≤ K.faults sink.new }
+    ensures cause { IsErrOf result Halt.Write → HasRisen (K.faults sink.old) (K.faults sink.new) }
+    ensures failures_told { ¬ IsErrOf result Halt.Write → K.faults sink.new ≡ K.faults sink.old }
+{
+    match file.fragmented(alloc) {
+        Ok(fragmented) => put_pieces(sink, &fragmented),
+        Err(_) => Err(Halt::Memory),
+    }
 }
 
 /// Puts the line of a fault.
@@ -53,6 +74,7 @@ fn put_fault<K: Sink>(
         (K.written sink.old) (K.written sink.new)) }
     ensures no_fewer_faults { K.faults sink.old ≤ K.faults sink.new }
     ensures cause { IsErrOf result Halt.Write → HasRisen (K.faults sink.old) (K.faults sink.new) }
+    ensures failures_told { ¬ IsErrOf result Halt.Write → K.faults sink.new ≡ K.faults sink.old }
 {
     match remux_fault_line(alloc, fault, offset) {
         Ok(line) => put_bytes(sink, line.as_bytes()),
@@ -61,17 +83,21 @@ fn put_fault<K: Sink>(
 }
 
 /// Puts a file as fragments, or the line of its fault. It answers whether it has one.
-fn put_remuxed<K: Sink>(alloc: Global, sink: &mut K, file: &[u8]) -> Result<bool, Halt>
-    ensures ok { IfOk result (λ broken. broken ≡ is_err (pieces_of_file file.now)) }
-    ensures wrote { OnOk result (IsWritten (remux_text file.now)
+fn put_remuxed<K: Sink>(alloc: Global, sink: &mut K, file: Vec<u8>) -> Result<bool, Halt>
+    ensures ok { IfOk result (λ broken. broken ≡ is_err (pieces_of_file file.items)) }
+    ensures wrote { OnOk result (IsWritten (remux_text file.items)
         (K.written sink.old) (K.written sink.new)) }
-    ensures err { OnErr result (IsFrontWritten (remux_text file.now)
+    ensures err { OnErr result (IsFrontWritten (remux_text file.items)
         (K.written sink.old) (K.written sink.new)) }
     ensures no_fewer_faults { K.faults sink.old ≤ K.faults sink.new }
     ensures cause { IsErrOf result Halt.Write → HasRisen (K.faults sink.old) (K.faults sink.new) }
+    ensures failures_told { ¬ IsErrOf result Halt.Write → K.faults sink.new ≡ K.faults sink.old }
 {
-    match remux(alloc, file) {
-        Ok(pieces) => match put_pieces(sink, pieces.as_slice()) {
+    let Ok(bytes) = Bytes::from_vec(alloc, file) else {
+        return Err(Halt::Memory);
+    };
+    match ClassicFile::read(alloc, bytes) {
+        Ok(classic) => match put_fragmented(alloc, sink, &classic) {
             Ok(()) => Ok(false),
             Err(halt) => Err(halt),
         },
@@ -104,14 +130,17 @@ pub fn run_remux<L: Library, K: Sink>(
     ensures no_fewer_read_faults { L.faults library.old ≤ L.faults library.new }
     ensures no_fewer_faults { K.faults sink.old ≤ K.faults sink.new }
     ensures write { IsErrOf result End.Write → HasRisen (K.faults sink.old) (K.faults sink.new) }
+    ensures failed_puts_told { ¬ IsErrOf result End.Write → K.faults sink.new ≡ K.faults sink.old }
     ensures read { (name : List ℕ) → IsErrOf result (End.Read name)
         → HasRisen (L.faults library.old) (L.faults library.new) }
+    ensures failed_loads_told { ¬ IsErrAnd result IsEndOfFailedLoad
+        → L.faults library.new ≡ L.faults library.old }
 {
     let file = match load(alloc, library, name) {
         Ok(file) => file,
         Err(end) => return Err(end),
     };
-    match put_remuxed(alloc, sink, file.as_slice()) {
+    match put_remuxed(alloc, sink, file) {
         Ok(is_broken) => Ok(is_broken),
         Err(halt) => Err(End::of_halt(halt)),
     }

@@ -1,7 +1,8 @@
 //! The top call.
 
-ghost use Rattle.std.specs.Prelude.{◌≡◌, ◌≤◌, ◌<◌, ◌⊎◌, ◌^◌, ℕ, [], None, IfSome, map, string_bytes, vec_len};
+ghost use Rattle.std.specs.Prelude.{◌≡◌, ◌≢◌, ◌≤◌, ◌<◌, ◌⊎◌, ◌^◌, ℕ, [], None, IfSome, map, string_bytes, vec_len};
 ghost use Rattle.listeners.specs.Dispatch.{notes_at};
+ghost use Rattle.listeners.specs.Ways.{AreByWay};
 ghost use Rattle.mse_outside.specs.Outside.{HasRisen};
 ghost use Rattle.mse_commands.specs.Requests.{HasRequestOfWords, request_in};
 ghost use Rattle.mse_commands.specs.Complete.{IsCutAnywhere, IsComplete};
@@ -27,6 +28,7 @@ fn say_line<K: Sink>(alloc: Global, sink: &mut K, end: &End) -> Status
     ensures write { result ≡ Status.Write
         → (end.now ≡ End.Write) ⊎ HasRisen (K.faults sink.old) (K.faults sink.new) }
     ensures no_fewer_faults { K.faults sink.old ≤ K.faults sink.new }
+    ensures failures_told { result ≢ Status.Write → K.faults sink.new ≡ K.faults sink.old }
 {
     let Ok(line) = error_line_for(alloc, end) else {
         return Status::Memory;
@@ -43,6 +45,7 @@ fn say<K: Sink>(alloc: Global, sink: &mut K, end: &End) -> Status
     ensures write { result ≡ Status.Write
         → (end.now ≡ End.Write) ⊎ HasRisen (K.faults sink.old) (K.faults sink.new) }
     ensures no_fewer_faults { K.faults sink.old ≤ K.faults sink.new }
+    ensures failures_told { result ≢ Status.Write → K.faults sink.new ≡ K.faults sink.old }
 {
     match end {
         End::Memory => Status::Memory,
@@ -61,7 +64,10 @@ fn say<K: Sink>(alloc: Global, sink: &mut K, end: &End) -> Status
 /// and all that comes after it. `remux FILE` writes a classic file as a fragmented one, of which the
 /// initialization segment and each media segment is a put of its own; it makes no engine. All that
 /// happened stands in the journal, and the engine is as it was left. Coded frames are kept
-/// in a store of type `S`.
+/// in a store of type `S`. Each listener stays at its place, and did what its way gives.
+///
+/// A failed put is told by the status `Write`. A failed load is told by `Read`, unless memory is
+/// wanting for that line, or the sink fails to take it.
 pub fn run<S: FrameStore, L: Library, K: Sink>(
     alloc: Global,
     words: &[String],
@@ -89,9 +95,16 @@ pub fn run<S: FrameStore, L: Library, K: Sink>(
     ensures cuts { IfSome (L.table library.old) (λ files.
         IsCutAnywhere (request_in files (map string_bytes words.now)) journal.new.entries result) }
     ensures count { vec_len listeners.new ≡ vec_len listeners.old }
+    ensures kinds { map (λ b. b.vtable) listeners.new.items
+        ≡ map (λ b. b.vtable) listeners.old.items }
+    ensures ways { map (λ b. way b) listeners.new.items ≡ map (λ b. way b) listeners.old.items }
+    ensures by_way { AreByWay way rules notes listeners.new.items }
     ensures words { result ≡ Status.Words → command_of (map string_bytes words.now) ≡ None }
     ensures read { result ≡ Status.Read → HasRisen (L.faults library.old) (L.faults library.new) }
     ensures write { result ≡ Status.Write → HasRisen (K.faults sink.old) (K.faults sink.new) }
+    ensures failed_loads_told { result ≢ Status.Read → result ≢ Status.Memory
+        → result ≢ Status.Write → L.faults library.new ≡ L.faults library.old }
+    ensures failed_puts_told { result ≢ Status.Write → K.faults sink.new ≡ K.faults sink.old }
 {
     match work(alloc, words, library, sink, listeners, engine, journal) {
         Ok(false) => Status::Ok,

@@ -1,4 +1,4 @@
-use Rattle.cut_law.proofs.Cutting.{cutting, recutting}
+use Rattle.cut_law.proofs.AwaitedAppends.{cutting, recutting}
 use Rattle.cut_law.proofs.laws.any_cutting.Goals as goal
 
 pub returns-clause-once : goal.returns-clause-once

@@ -1,4 +1,4 @@
-use Rattle.cut_law.proofs.Filing.{filing}
+use Rattle.cut_law.proofs.FilesInPieces.{filing}
 use Rattle.cut_law.proofs.laws.file_parts.Goals as goal
 
 pub returns : goal.returns

@@ -1,4 +1,4 @@
-use Rattle.cut_law.proofs.Stopping.{stopping}
+use Rattle.cut_law.proofs.AppendsUpToFault.{stopping}
 use Rattle.cut_law.proofs.laws.stopped_parts.Goals as goal
 
 pub returns : goal.returns

@@ -2,7 +2,7 @@ use Rattle.std.proofs.Common.{◌≡◌, ◌∙◌, ap, string_bytes}
 use Rattle.event_text.specs.Block.{closing_text}
 use Rattle.mse_calls.specs.declared.views.View.{View}
 use Rattle.mse_engine.specs.Views.{view_in}
-use Rattle.script_run.proofs.Writing.{front_first}
+use Rattle.script_run.proofs.PutLines.{front_first}
 use Rattle.mse_commands.proofs.PlayedScripts.{err_behind}
 use Rattle.mse_commands.proofs.commands.close.Goals as goal
 

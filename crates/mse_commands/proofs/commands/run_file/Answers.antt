@@ -1,6 +1,6 @@
 use Rattle.std.proofs.Common.{◌≡◌, ◌∙◌, ap, []}
 use Rattle.run_journal.specs.JournalView.{JournalView}
-use Rattle.mse_commands.proofs.Working.{file_not_loaded, file_works}
+use Rattle.mse_commands.proofs.DoneTasks.{file_not_loaded, file_works}
 use Rattle.mse_commands.proofs.commands.run_file.Goals as goal
 
 pub returns-in-Err-clause-works : goal.returns-in-Err-clause-works

@@ -1,8 +1,9 @@
 use Rattle.std.proofs.Common.{◌≡◌, ◌≤◌, ◌∙◌, ap, arith, length, []}
 use Rattle.std.specs.Prelude.{vec_len}
 use Rattle.run_journal.specs.JournalView.{JournalView}
-use Rattle.mse_commands.proofs.Scripting.{steps_few}
-use Rattle.mse_commands.proofs.Working.{blobs_not_loaded, script_not_loaded, script_works}
+use Rattle.mse_commands.proofs.ReadScripts.{steps_few}
+use Rattle.mse_commands.proofs.DoneTasks.{blobs_not_loaded, script_not_loaded, script_works}
+use Rattle.listeners.proofs.ListenerWays.{unheard_by_way}
 use Rattle.mse_commands.proofs.commands.run_script.Goals as goal
 
 pub returns-in-Err-clause-works : goal.returns-in-Err-clause-works
@@ -31,3 +32,9 @@ returns-clause-works g c =
     rw (c.hand_out.ensures.entries, c.hand_out.ensures.engine)
     (script_works (g.L.Library.table c.args.library.now) (g.L.Library.faults c.args.library.now) (g.L.Library.faults c.load_blobs.new.library) c.args.name.now c.in-Ok.script c.in-Ok-load_blobs.blobs
     _ _ (vec_len c.args.listeners.now) _ _ c.play_script-result.result c.in-Ok.ensures.as_read len c.in-Ok.ensures.ok are stands fresh c.play_script-result.ensures.plays)
+
+pub returns-in-Err-clause-by_way : goal.returns-in-Err-clause-by_way
+returns-in-Err-clause-by_way g c = unheard_by_way _ _ _ _ c.requires.no_notes
+
+pub returns-in-Err-load_blobs-clause-by_way : goal.returns-in-Err-load_blobs-clause-by_way
+returns-in-Err-load_blobs-clause-by_way g c = unheard_by_way _ _ _ _ c.requires.no_notes

@@ -1,7 +1,7 @@
 use Rattle.std.proofs.Common.{◌≡◌, ◌∙◌, ap, arith, length}
 use Rattle.std.specs.Prelude.{is_some}
 use Rattle.std.proofs.lemmas.Grind.{common_steps}
-use Rattle.mse_commands.proofs.Showing.{shows_all, shows_half}
+use Rattle.mse_commands.proofs.ShownFiles.{shows_all, shows_half}
 use Rattle.mse_commands.proofs.commands.show_file.Goals as goal
 
 pub returns-in-Ok-close_file-clause-shows : goal.returns-in-Ok-close_file-clause-shows

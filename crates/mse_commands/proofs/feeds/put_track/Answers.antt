@@ -1,7 +1,7 @@
 use Rattle.script_run.specs.Writes.{IsWritten, IsFrontWritten}
 use Rattle.track_store.specs.State.{state_of}
 use Rattle.feed_lines.specs.Lines.{feed_text}
-use Rattle.mse_commands.proofs.Tracking.{err_there, not_there, ok_there}
+use Rattle.mse_commands.proofs.EngineTracks.{err_there, not_there, ok_there}
 use Rattle.mse_commands.proofs.feeds.put_track.Goals as goal
 
 pub returns-in-Some-clause-ok : goal.returns-in-Some-clause-ok

@@ -1,8 +1,9 @@
-use Rattle.std.proofs.Common.{◌≡◌, ◌<◌, arith, length}
+use Rattle.std.proofs.Common.{◌≡◌, ◌<◌, arith, length, ◌∙◌}
 use Rattle.feed_lines.specs.Lines.{feed_text}
 use Rattle.mse_commands.specs.Feeds.{tracks_in}
-use Rattle.mse_commands.proofs.Putting.{one_failed, one_put}
-use Rattle.mse_commands.proofs.Tracking.{held}
+use Rattle.mse_commands.proofs.PutTexts.{one_failed, one_put}
+use Rattle.mse_commands.proofs.EngineTracks.{held}
+use Rattle.script_run.proofs.GoneThrough.{gone_through}
 use Rattle.mse_commands.proofs.feeds.put_tracks.Goals as goal
 
 pub returns-in-Err-clause-err : goal.returns-in-Err-clause-err
@@ -20,4 +21,5 @@ loop-i-preserved g c = record {
       let t = held (tracks_in st) c.loop-i.i low in
       one_put (feed_text c.args.at) (tracks_in st) c.loop-i.i t.0 _ _ _ t.1 (c.loop-i.invariant.put st h) (rw t.1 at (c.in-Ok-put_track.ensures.ok st h));
   no_fewer_faults = omega (arith, c.loop-i.invariant.no_fewer_faults, c.put_track.ensures.no_fewer_faults);
+  same_faults = c.in-Ok-put_track.ensures.failures_told (gone_through _ _) ∙ c.loop-i.invariant.same_faults;
 }

@@ -1,6 +1,6 @@
 use Rattle.std.proofs.Common.{◌≡◌, ◌≤◌, ◌<◌, length, get_or, subst, List}
 use Rattle.mse_calls.specs.declared.views.BufferView.{BufferView}
-use Rattle.mse_commands.proofs.Tracking.{counted, no_buffers, none_counted}
+use Rattle.mse_commands.proofs.EngineTracks.{counted, no_buffers, none_counted}
 use Rattle.mse_commands.proofs.feeds.track_count.Goals as goal
 
 pub returns-then-first-eq0 : goal.returns-then-first-eq0

@@ -2,8 +2,8 @@ use Rattle.std.proofs.Common.{◌≡◌, ◌<◌, ◌≤◌, ◌+◌, ◌-◌, �
 use Rattle.std.specs.Prelude.{min, is_some}
 use Rattle.std.proofs.lemmas.Grind.{common_steps}
 use Rattle.mse_commands.specs.Shown.{pieces_of}
-use Rattle.mse_commands.proofs.Appending.{front_none, front_opened}
-use Rattle.mse_commands.proofs.Filing.{begins_filing, ends_at_fault, ends_filed, front_cut, front_filed, goes_on_filing, next_filed}
+use Rattle.mse_commands.proofs.FileAppends.{front_none, front_opened}
+use Rattle.mse_commands.proofs.FileProgress.{begins_filing, ends_at_fault, ends_filed, front_cut, front_filed, goes_on_filing, next_filed}
 use Rattle.mse_commands.proofs.file.append_pieces.Goals as goal
 use Rattle.mse_commands.proofs.file.append_pieces.Goals.{then-at-len, else-at-len}
 

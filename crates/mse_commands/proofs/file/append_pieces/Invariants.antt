@@ -1,5 +1,5 @@
 use Rattle.std.proofs.Common.{◌-◌}
-use Rattle.mse_commands.proofs.Filing.{file_place, IsAppending}
+use Rattle.mse_commands.proofs.FileProgress.{file_place, IsAppending}
 use Rattle.mse_commands.proofs.file.append_pieces.Given as goal
 
 -- the pieces that are left complete the file

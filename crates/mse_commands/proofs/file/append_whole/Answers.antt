@@ -1,6 +1,6 @@
 use Rattle.std.proofs.Common.{[], ◌∷◌}
 use Rattle.mse_commands.specs.Shown.{whole_piece}
-use Rattle.mse_commands.proofs.Appending.{appended_last, front_drained, front_none, front_opened, front_under_way, piece_done, under_way}
+use Rattle.mse_commands.proofs.FileAppends.{appended_last, front_drained, front_none, front_opened, front_under_way, piece_done, under_way}
 use Rattle.mse_commands.proofs.file.append_whole.Goals as goal
 
 pub returns-in_default-clause-err : goal.returns-in_default-clause-err

@@ -1,4 +1,4 @@
-use Rattle.mse_commands.proofs.Appending.{opened, opened_half, opened_none}
+use Rattle.mse_commands.proofs.FileAppends.{opened, opened_half, opened_none}
 use Rattle.mse_commands.proofs.file.open.Goals as goal
 
 pub returns-in_default-clause-err : goal.returns-in_default-clause-err

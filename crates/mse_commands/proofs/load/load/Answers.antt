@@ -1,4 +1,4 @@
-use Rattle.mse_commands.proofs.Loading.{load_failed}
+use Rattle.mse_commands.proofs.LoadedFiles.{load_failed}
 use Rattle.mse_commands.proofs.load.load.Goals as goal
 
 pub returns-in-Failed-clause-early_end : goal.returns-in-Failed-clause-early_end

@@ -1,5 +1,5 @@
 use Rattle.std.proofs.Common.{◌≤◌, ◌+◌, ◌∙◌, take, drop, arith, length-append}
-use Rattle.mse_commands.proofs.Loading.{blobs_end, blobs_step, more_at, parts_at}
+use Rattle.mse_commands.proofs.LoadedFiles.{blobs_end, blobs_step, more_at, parts_at}
 use Rattle.mse_commands.proofs.load.load_blobs.Goals as goal
 
 pub returns-in-Err-clause-early_end : goal.returns-in-Err-clause-early_end
@@ -16,6 +16,7 @@ loop-text-preserved g c =
     record {
       table = c.load_blob.ensures.table ∙ c.loop-text.invariant.table;
       no_fewer_faults = no_fewer;
+      same_faults = c.in-Ok.ensures.failures_told (λ e. e) ∙ c.loop-text.invariant.same_faults;
       count = rw c.in-Ok-push.ensures.ok (grind (arith, length-append, c.loop-text.invariant.count));
       made = blobs_step (g.L.Library.table c.args.library.now) (g.L.Library.table c.loop-text.library) (take i c.args.texts.now) (take (i + 1) c.args.texts.now) c.text-item.result
           c.loop-text.blobs c.push.new.self c.in-Ok.bytes c.loop-text.invariant.table (more_at c.args.texts.now i c.text-item.result c.loop-text-test.true c.text-item.is)

@@ -8,6 +8,7 @@ abbrev pub invariant-loop-text : goal.invariant-loop-text
 invariant-loop-text g l = record {
   table : g.L.Library.table l.library ≡ g.L.Library.table l.fn.library;
   no_fewer_faults : g.L.Library.faults l.fn.library ≤ g.L.Library.faults l.library;
+  same_faults : g.L.Library.faults l.library ≡ g.L.Library.faults l.fn.library;
   count : length l.blobs ≡ l.text-index;
   made : IfSome (g.L.Library.table l.fn.library) (λ files. blobs_bytes files (take l.text-index l.texts) ≡ Ok l.blobs);
 }

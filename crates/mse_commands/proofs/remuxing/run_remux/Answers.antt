@@ -1,4 +1,4 @@
-use Rattle.mse_commands.proofs.Working.{remux_not_loaded, remux_stops, remux_works}
+use Rattle.mse_commands.proofs.DoneTasks.{remux_not_loaded, remux_stops, remux_works}
 use Rattle.mse_commands.proofs.remuxing.run_remux.Goals as goal
 
 pub returns-in-Err-clause-works : goal.returns-in-Err-clause-works
@@ -10,10 +10,10 @@ pub returns-in-Ok-put_remuxed-clause-works : goal.returns-in-Ok-put_remuxed-clau
 returns-in-Ok-put_remuxed-clause-works g c = λ count told given.
     remux_works (g.L.Library.table c.args.library.now) (g.L.Library.faults c.args.library.now) (g.L.Library.faults c.load.new.library) c.args.name.now c.in-Ok.file.items
     (g.K.Sink.written c.args.sink.now) (g.K.Sink.written c.put_remuxed.new.sink) count told given c.in-Ok-put_remuxed.is_broken c.in-Ok.ensures.ok
-    (rw c.as_slice.ensures.value at c.in-Ok-put_remuxed.ensures.wrote) (rw c.as_slice.ensures.value at c.in-Ok-put_remuxed.ensures.ok)
+    c.in-Ok-put_remuxed.ensures.wrote c.in-Ok-put_remuxed.ensures.ok
 
-pub returns-clause-works : goal.returns-clause-works
-returns-clause-works g c = λ count told given.
+pub returns-in-Err-put_remuxed-clause-works : goal.returns-in-Err-put_remuxed-clause-works
+returns-in-Err-put_remuxed-clause-works g c = λ count told given.
     rw c.of_halt.ensures (remux_stops (g.L.Library.table c.args.library.now) (g.L.Library.faults c.args.library.now) (g.L.Library.faults c.load.new.library) c.args.name.now c.in-Ok.file.items
     (g.K.Sink.written c.args.sink.now) (g.K.Sink.written c.put_remuxed.new.sink) count told given c.in-Err-put_remuxed.halt c.in-Ok.ensures.ok
-    (rw c.as_slice.ensures.value at c.in-Err-put_remuxed.ensures.err))
+    c.in-Err-put_remuxed.ensures.err)

@@ -1,8 +1,8 @@
 use Rattle.std.proofs.Common.{map, string_bytes}
 use Rattle.std.specs.Prelude.{vec_len}
 use Rattle.mse_commands.specs.declared.ending.Status.TheVariants as status
-use Rattle.mse_commands.proofs.Completing.{complete_by, cuts_by}
-use Rattle.mse_commands.proofs.Saying.{broken_at, put_failed, said_by, whole_by}
+use Rattle.mse_commands.proofs.CompleteRuns.{complete_by, cuts_by}
+use Rattle.mse_commands.proofs.RunEnds.{broken_at, loads_told, put_failed, puts_told, said_by, whole_by}
 use Rattle.mse_commands.proofs.top.run.Goals as goal
 
 pub returns-in-Ok-true-clause-ends : goal.returns-in-Ok-true-clause-ends
@@ -46,3 +46,9 @@ returns-in-Err-clause-cuts g c =
     said_by (g.L.Library.table c.args.library.now) (map string_bytes c.args.words.now) (vec_len c.args.listeners.now) _ c.in-Err.end
     (g.K.Sink.written c.say.new.sink) c.say.result c.in-Err.ensures.works c.say.ensures.says in
     cuts_by (g.L.Library.table c.args.library.now) (map string_bytes c.args.words.now) (vec_len c.args.listeners.now) _ c.say.result ends
+
+pub returns-in-Err-clause-failed_loads_told : goal.returns-in-Err-clause-failed_loads_told
+returns-in-Err-clause-failed_loads_told g c = loads_told c.in-Err.end c.say.result _ _ _ _ c.say.ensures.says c.in-Err.ensures.failed_loads_told
+
+pub returns-in-Err-clause-failed_puts_told : goal.returns-in-Err-clause-failed_puts_told
+returns-in-Err-clause-failed_puts_told g c = puts_told c.in-Err.end c.say.result _ _ _ _ _ c.say.ensures.says c.in-Err.ensures.failed_puts_told c.say.ensures.failures_told

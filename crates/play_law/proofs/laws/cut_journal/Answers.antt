@@ -1,5 +1,0 @@
-use Rattle.play_law.proofs.Singles.{cuts-alike}
-use Rattle.play_law.proofs.laws.cut_journal.Goals as goal
-
-pub returns : goal.returns
-returns c = λ blobs limits st lines entries j. cuts-alike blobs limits st lines entries j
