@@ -5,8 +5,8 @@
 #
 # PROGRAM is crates/mseplay/out/mseplay, as `rt run` leaves it in crates/mseplay. The files are made in a folder of their
 # own, which goes at the end. Each run is the best of three; where there is no ffmpeg, it is left out. Ten times the
-# samples are to take some ten times the time, and `remux` at most three times the memory of its file where samples
-# have some fifty bytes or more.
+# samples are to take some ten times the time, and `remux` at most 2.5 times the memory of its file where samples
+# have forty bytes or more.
 set -eu
 here=$(cd "$(dirname "$0")" && pwd)
 program=$(realpath "${1:-$here/../crates/mseplay/out/mseplay}")
