@@ -9,7 +9,6 @@ mod buffers;
 mod element;
 mod files;
 mod frames;
-mod library_page;
 mod memory;
 mod refusals;
 
