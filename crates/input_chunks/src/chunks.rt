@@ -134,8 +134,8 @@ impl Chunks {
         read_of(&self.entries, place.index, place.skip, into);
     }
 
-    /// The `n` bytes from `from` on. Where they lie in one piece that no push can lengthen, they have its memory,
-    /// and no byte is copied.
+    /// The `n` bytes from `from` on. Where they lie in one piece that no push can lengthen, or in pieces of which each
+    /// begins in the same memory right behind the one before, they have that memory, and no byte is copied.
     pub fn copy(&self, from: usize, n: usize) -> Result<Bytes, OutOfMemory>
         requires { from + n ≤ length (concat self.now) }
         ensures { IfOk result (λ b. b ≡ take n (drop from (concat self.now))) }
@@ -148,6 +148,9 @@ impl Chunks {
         let first = piece_offset_of(&self.entries, self.dropped, from);
         let entry = &self.entries[first.index];
         if let Some(bytes) = part_of(&entry.piece, first.skip, n)? {
+            return Ok(bytes);
+        }
+        if let Some(bytes) = joined_part(&self.entries, first.index, first.skip, n)? {
             return Ok(bytes);
         }
         let mut bytes = Vec::with_capacity(self.alloc, n)?;
@@ -296,6 +299,52 @@ fn part_of(piece: &Bytes, skip: usize, n: usize) -> Result<Option<Bytes>, OutOfM
         return Ok(None);
     }
     Ok(Some(piece.part(skip, skip + n)?))
+}
+
+/// The `n` bytes behind the first `skip` of piece `first`, where they lie in several pieces of which each begins in the
+/// same memory right behind the one before: they have that memory. `None` elsewhere, and where the last of these pieces
+/// is so short that a push may lengthen it.
+fn joined_part(
+    entries: &VecDeque<PieceWithEnd>,
+    first: usize,
+    skip: usize,
+    n: usize,
+) -> Result<Option<Bytes>, OutOfMemory>
+    requires { first < length entries.now.items }
+    ensures { IfOk result (λ part. IfSome part (λ b.
+        b ≡ take n (drop skip (bytes_from first entries.now.items)))) }
+{
+    let entry = &entries[first];
+    let len = entry.piece.len();
+    if skip > len || n <= len - skip {
+        return Ok(None);
+    }
+    let mut bytes = entry.piece.part(skip, len)?;
+    let mut len_left = n - (len - skip);
+    'pieces: for i in first + 1..entries.len() {
+        let next = &entries[i];
+        let next_len = next.piece.len();
+        let more = len_left.min(next_len);
+        if !bytes.extend_shared(&next.piece, more) {
+            return Ok(None);
+        }
+        if len_left <= next_len {
+            return Ok(if_long(bytes, next_len));
+        }
+        len_left -= next_len;
+    }
+    Ok(None)
+}
+
+/// The bytes, where the piece in which they end is so long that no push lengthens it.
+fn if_long(bytes: Bytes, piece_len: usize) -> Option<Bytes>
+    ensures { IfSome result (λ b. b ≡ bytes) }
+{
+    if piece_len as u128 > LONGEST {
+        Some(bytes)
+    } else {
+        None
+    }
 }
 
 /// Copies `n` bytes, from byte `skip` of piece `first` on.

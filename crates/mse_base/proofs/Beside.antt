@@ -5,7 +5,7 @@ use Rattle.std.proofs.lemmas.Int.{ints}
 use Rattle.std.proofs.lemmas.List.{drop_more, length-take-le, get_or-take}
 use Rattle.mse_base.specs.declared.span.Span.{Span}
 use Rattle.mse_base.specs.Spans.{IsNormalized, IsFirstStartAfter, last_of, has_end_after, has_start_before}
-use Rattle.mse_base.proofs.Looking.{last_some}
+use Rattle.mse_base.proofs.RangeLookUps.{last_some}
 
 is_lt : (a b : ℤ) → a <ℤ b → int_lt a b ≡ true
 is_lt a b h = grind (arith, ints)

@@ -7,7 +7,7 @@ use Rattle.mse_base.proofs.Neighbours.{near_gap, gap_near}
 use Rattle.mse_base.specs.Spans.{has_tick, has_tick_in, IsFirstStartAfter, IsNormalized, IsBridged, IsBridging}
 use Rattle.mse_base.specs.Bridging.{bridged_ranges, is_near, is_near_any, IsRanges, is_empty}
 use Rattle.mse_base.proofs.Unique.{unique}
-use Rattle.mse_base.proofs.Merging.{ranges_bridged, times_bridged}
+use Rattle.mse_base.proofs.JoinedSpans.{ranges_bridged, times_bridged}
 
 -- an element of a list
 abbrev pub IsIn : {X : Type 0} → X → List X → Type 0

@@ -7,7 +7,7 @@ use Rattle.std.proofs.lemmas.List.Sums.{fold-append}
 use Rattle.mse_base.specs.declared.span.Span.{Span}
 use Rattle.mse_base.specs.Spans.{has_tick, has_tick_in, IsNormalized, first_of, has_end_after}
 use Rattle.mse_base.specs.Meets.{meet, meet_of_all, narrowed_span, narrowed_of_two, narrowed_of_all}
-use Rattle.mse_base.proofs.Meeting.{covers-meet}
+use Rattle.mse_base.proofs.SharedTicks.{covers-meet}
 use Rattle.mse_base.proofs.Unique.{at_end, before_all, inner, pick, same_span, starts_in}
 
 -- ---- ticks of one span more

@@ -6,7 +6,7 @@ use Rattle.std.proofs.lemmas.Int.{ints}
 use Rattle.mse_base.specs.declared.span.Span.{Span}
 use Rattle.mse_base.specs.Spans.{has_tick, has_tick_in, IsFirstStartAfter, IsNormalized, last_from, last_of, has_start_before}
 use Rattle.mse_base.specs.Meets.{meet, meet_of_all, narrowed_span, narrowed_of_two, narrowed_of_all}
-use Rattle.mse_base.proofs.Meeting.{later_than}
+use Rattle.mse_base.proofs.SharedTicks.{later_than}
 use Rattle.mse_base.proofs.Unique.{before_all, inner, pick, same_span}
 use Rattle.mse_base.proofs.Firsts.{HasNoneBefore, HasNoneFrom, before_both, before_or_from, both_in, either_has, from_both, left_out, none_at_all, past, right_out}
 

@@ -7,7 +7,7 @@ use Rattle.std.proofs.lemmas.List.{drop_all, length-take-le}
 use Rattle.std.proofs.lemmas.List.Edits.{get_or-remove_above}
 use Rattle.mse_base.specs.declared.span.Span.{Span}
 use Rattle.mse_base.specs.Bridging.{ranges_with_lasting, ranges_with, span_round, IsRanges, is_empty, is_far_before}
-use Rattle.mse_base.proofs.Merging.{step_joins, none_behind, far_behind, joined_here}
+use Rattle.mse_base.proofs.JoinedSpans.{step_joins, none_behind, far_behind, joined_here}
 use Rattle.mse_base.proofs.Places.{far_to_place, join_in_skips}
 
 not_lt : (a b : ℤ) → b ≤ℤ a → int_lt a b ≡ false

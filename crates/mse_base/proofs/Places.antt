@@ -5,7 +5,7 @@ use Rattle.std.specs.Option.{option_to_list}
 use Rattle.std.proofs.lemmas.Int.{ints}
 use Rattle.std.specs.Int.{int_min, int_max}
 use Rattle.mse_base.proofs.TickLemmas.{tick_none}
-use Rattle.mse_base.proofs.Looking.{each_at}
+use Rattle.mse_base.proofs.RangeLookUps.{each_at}
 use Rattle.std.proofs.lemmas.List.{drop_more, take_at, drop_at, length-take-le, length-append, append_assoc, set_split, take-append-drop}
 use Rattle.mse_base.specs.Time.{IsTick, tick}
 use Rattle.mse_base.specs.declared.span.Span.{Span}

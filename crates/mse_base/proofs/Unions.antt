@@ -4,7 +4,7 @@ use Rattle.mse_base.specs.declared.span.Span.{Span}
 use Rattle.mse_base.specs.Spans.{has_tick, has_tick_in, IsUnion}
 use Rattle.mse_base.specs.Bridging.{ranges_with, is_near_any, IsRanges, IsHeadOfOne}
 use Rattle.mse_base.proofs.Sets.{covers-append, nears_covers, near_within}
-use Rattle.mse_base.proofs.Merging.{ranges_join_in, times_join_in}
+use Rattle.mse_base.proofs.JoinedSpans.{ranges_join_in, times_join_in}
 use Rattle.mse_base.proofs.Extended.{normalized_ranges}
 
 -- what is joined, and what is left of the two lists

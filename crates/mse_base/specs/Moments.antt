@@ -44,7 +44,7 @@ is_same_moment Infinite Nan = false
 is_same_moment Infinite (At b) = false
 is_same_moment Infinite Infinite = true
 
--- the point of time is not after another one; one that is not a number is after none
+-- the point of time is not after another one; one that is not a number is after none, and each other is after it
 abbrev pub IsNotAfter : Moment → Moment → Type 0
 IsNotAfter Nan e = Unit {0}
 IsNotAfter (At d) Nan = ⊥

@@ -27,6 +27,15 @@ impl Model for Bytes {
     ghost invariant = { λ b. (b.start ≤ b.end) × (b.end ≤ vec_len b.shared.value) };
 }
 
+/// Whether the bytes from place `at` on begin with `part`.
+fn is_at(bytes: &[u8], at: usize, part: &[u8]) -> bool
+    requires { at ≤ length bytes.now }
+    ensures { result ≡ true → take (length part.now) (drop at bytes.now) ≡ part.now }
+{
+    let (_, behind) = bytes.split_at(at);
+    behind.starts_with(part)
+}
+
 impl Bytes {
     /// A copy of some bytes.
     pub fn copy_of(alloc: Global, bytes: &[u8]) -> Result<Bytes, OutOfMemory>
@@ -151,6 +160,25 @@ impl Bytes {
         items.extend_from_slice(bytes)?;
         *self = Bytes::from_vec(self.alloc, items)?;
         Ok(())
+    }
+
+    /// Appends the first `n` bytes of `next`, where `next` begins in the same memory right behind these bytes, and tells
+    /// whether it did. No byte is copied.
+    pub fn extend_shared(&mut self, next: &Bytes, n: usize) -> bool
+        requires { n ≤ length next.now }
+        ensures extended { result ≡ true → self.new ≡ self.old ++ take n next.now }
+        ensures same { result ≡ false → self.new ≡ self.old }
+    {
+        let more = &next.as_slice()[..n];
+        if self.end != next.start || !Rc::ptr_eq(&self.shared, &next.shared) {
+            return false;
+        }
+        // No clause of `ptr_eq` says that the two vectors are equal. So the bytes behind are compared.
+        if !is_at(self.shared.as_slice(), self.end, more) {
+            return false;
+        }
+        self.end += n;
+        true
     }
 
     /// Appends bytes where nothing else has their memory, and tells whether it did. An `Err` changes nothing.

@@ -1,7 +1,7 @@
 use Rattle.std.proofs.Common.{◌∙◌, List, take, subst, sym}
 use Rattle.mse_base.specs.declared.span.Span.{Span}
 use Rattle.mse_base.specs.Bridging.{IsRanges}
-use Rattle.mse_base.proofs.Merging.{ranges_bridged}
+use Rattle.mse_base.proofs.JoinedSpans.{ranges_bridged}
 use Rattle.mse_base.proofs.bridge.bridged_of.Goals as goal
 
 pub join_in-requires-clause-ranges : goal.join_in-requires-clause-ranges

@@ -1,5 +1,5 @@
 use Rattle.std.proofs.Common.{◌∙◌, ◌+◌, sym, arith}
-use Rattle.mse_base.proofs.Merging.{far_behind, none_behind}
+use Rattle.mse_base.proofs.JoinedSpans.{far_behind, none_behind}
 use Rattle.mse_base.proofs.bridge.is_last_near.Goals as goal
 
 pub returns-then-i-len : goal.returns-then-i-len

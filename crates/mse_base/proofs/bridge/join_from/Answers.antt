@@ -1,5 +1,5 @@
 use Rattle.std.proofs.Common.{◌∙◌, sym, arith}
-use Rattle.mse_base.proofs.Merging.{joined_here}
+use Rattle.mse_base.proofs.JoinedSpans.{joined_here}
 use Rattle.mse_base.proofs.bridge.join_from.Goals as goal
 
 pub returns-then-is_last_near-clause-spans : goal.returns-then-is_last_near-clause-spans

@@ -1,4 +1,4 @@
-use Rattle.mse_base.proofs.Merging.{length_bridged}
+use Rattle.mse_base.proofs.JoinedSpans.{length_bridged}
 use Rattle.mse_base.proofs.Extended.{bridged_law}
 use Rattle.mse_base.proofs.Neighbours.{joined_of_bridged, bridged_of_joined}
 use Rattle.mse_base.proofs.laws.bridging.Goals as goal

@@ -1,5 +1,5 @@
-use Rattle.mse_base.proofs.Meeting.{met_meet}
-use Rattle.mse_base.proofs.Holding.{find-meet}
+use Rattle.mse_base.proofs.SharedTicks.{met_meet}
+use Rattle.mse_base.proofs.RangeAtTime.{find-meet}
 use Rattle.mse_base.proofs.laws.meets.Goals as goal
 
 pub returns-clause-met : goal.returns-clause-met

@@ -1,5 +1,5 @@
-use Rattle.mse_base.proofs.Meeting.{all_normalized, covers-all, meet_push}
-use Rattle.mse_base.proofs.Holding.{find-meet_of_all, overlap_push}
+use Rattle.mse_base.proofs.SharedTicks.{all_normalized, covers-all, meet_push}
+use Rattle.mse_base.proofs.RangeAtTime.{find-meet_of_all, overlap_push}
 use Rattle.mse_base.proofs.laws.meets_of_all.Goals as goal
 
 pub returns-clause-normalized : goal.returns-clause-normalized

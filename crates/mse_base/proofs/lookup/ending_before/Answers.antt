@@ -1,6 +1,6 @@
 use Rattle.std.proofs.Common.{◌≤ℤ◌, ◌-ℤ◌, ◌<ℤ◌, arith}
 use Rattle.std.proofs.lemmas.Int.{ints}
-use Rattle.mse_base.proofs.Looking.{below_more, above_from}
+use Rattle.mse_base.proofs.RangeLookUps.{below_more, above_from}
 use Rattle.mse_base.proofs.lookup.ending_before.Goals as goal
 
 pub loop-low-preserved-then-is_far_before_time : goal.loop-low-preserved-then-is_far_before_time

@@ -1,7 +1,7 @@
 use Rattle.std.proofs.Common.{◌≡◌, ◌≤ℤ◌, ◌<ℤ◌, ◌-ℤ◌, ℤ, take, drop, subst, arith}
 use Rattle.std.specs.List.{AllByRecursion}
 use Rattle.std.proofs.lemmas.Int.{ints}
-use Rattle.mse_base.proofs.Looking.{found_here, not_here, past_all}
+use Rattle.mse_base.proofs.RangeLookUps.{found_here, not_here, past_all}
 use Rattle.mse_base.proofs.lookup.span_holding.Goals as goal
 use Rattle.mse_base.proofs.lookup.span_holding.Goals.{then-place-len+else-le, else-place-len}
 

@@ -2,8 +2,8 @@ use Rattle.std.proofs.Common.{◌≡◌, ◌≤ℤ◌, ◌-ℤ◌, ◌<ℤ◌, l
 use Rattle.std.specs.List.{AllByRecursion}
 use Rattle.std.proofs.lemmas.Int.{ints}
 use Rattle.mse_base.specs.Rows.{row_items, start}
-use Rattle.mse_base.proofs.Looking.{above_from}
-use Rattle.mse_base.proofs.Ending.{below_row, above_all}
+use Rattle.mse_base.proofs.RangeLookUps.{above_from}
+use Rattle.mse_base.proofs.SpanEnds.{below_row, above_all}
 use Rattle.mse_base.proofs.span_blocks.blocks_ending.Goals as goal
 
 pub loop-low-init : goal.loop-low-init

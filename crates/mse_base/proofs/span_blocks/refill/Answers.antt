@@ -1,5 +1,5 @@
 use Rattle.std.proofs.Common.{◌+◌, length, arith}
-use Rattle.mse_base.proofs.Ending.{some_free}
+use Rattle.mse_base.proofs.SpanEnds.{some_free}
 use Rattle.mse_base.proofs.span_blocks.refill.Goals as goal
 
 pub returns-then-is_empty-clause-some : goal.returns-then-is_empty-clause-some

@@ -3,7 +3,7 @@ use Rattle.std.specs.List.{AllByRecursion}
 use Rattle.std.proofs.lemmas.Int.{ints}
 use Rattle.mse_base.specs.Rows.{row_items, start}
 use Rattle.mse_base.proofs.InRows.{filled_row}
-use Rattle.mse_base.proofs.Ending.{below_in, above_in, above_row}
+use Rattle.mse_base.proofs.SpanEnds.{below_in, above_in, above_row}
 use Rattle.mse_base.proofs.span_blocks.spans_ending.Goals as goal
 
 pub loop-low-init : goal.loop-low-init

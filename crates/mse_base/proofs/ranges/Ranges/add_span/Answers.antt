@@ -1,6 +1,6 @@
-use Rattle.mse_base.proofs.Merging.{ranges_join_in, length_join_in}
+use Rattle.mse_base.proofs.JoinedSpans.{ranges_join_in, length_join_in}
 use Rattle.mse_base.proofs.Extended.{normalized_ranges}
-use Rattle.mse_base.proofs.Joining.{bridged_join_in}
+use Rattle.mse_base.proofs.BridgedRanges.{bridged_join_in}
 use Rattle.mse_base.proofs.ranges.Ranges.add_span.Goals as goal
 
 pub invariant_of-self : goal.invariant_of-self

@@ -1,9 +1,9 @@
 use Rattle.std.proofs.Common.{◌≡◌, ◌∙◌, pos, ◌≤ℤ◌, sym, subst}
 use Rattle.std.specs.Int.{int_max}
 use Rattle.mse_base.specs.Bridging.{bridged_ranges}
-use Rattle.mse_base.proofs.Merging.{ranges_bridged}
+use Rattle.mse_base.proofs.JoinedSpans.{ranges_bridged}
 use Rattle.mse_base.proofs.Extended.{normalized_ranges}
-use Rattle.mse_base.proofs.Filling.{filled_is, filled_law, from_zero, spans_are, unchanged}
+use Rattle.mse_base.proofs.FilledGaps.{filled_is, filled_law, from_zero, spans_are, unchanged}
 use Rattle.mse_base.proofs.ranges.Ranges.bridge.Goals as goal
 
 pub bridged_of-requires : goal.bridged_of-requires

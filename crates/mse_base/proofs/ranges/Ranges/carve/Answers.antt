@@ -1,8 +1,8 @@
 use Rattle.std.proofs.Common.{◌<ℤ◌, ◌-ℤ◌, ◌+ℤ◌, arith}
 use Rattle.std.proofs.lemmas.Int.{ints}
 use Rattle.mse_base.proofs.Extended.{normalized_ranges}
-use Rattle.mse_base.proofs.Carving.{ranges_carved}
-use Rattle.mse_base.proofs.Joining.{cut_out_carved}
+use Rattle.mse_base.proofs.CarvedRanges.{ranges_carved}
+use Rattle.mse_base.proofs.BridgedRanges.{cut_out_carved}
 use Rattle.mse_base.proofs.ranges.Ranges.carve.Goals as goal
 
 pub invariant_of-self : goal.invariant_of-self

@@ -1,5 +1,5 @@
 use Rattle.std.proofs.Common.{arith}
-use Rattle.mse_base.proofs.Looking.{last_some}
+use Rattle.mse_base.proofs.RangeLookUps.{last_some}
 use Rattle.mse_base.proofs.ranges.Ranges.last.Goals as goal
 
 pub returns-else-len-eq0 : goal.returns-else-len-eq0

@@ -1,5 +1,5 @@
 use Rattle.std.proofs.Common.{◌∙◌}
-use Rattle.mse_base.proofs.Meeting.{meet_is, met_again}
+use Rattle.mse_base.proofs.SharedTicks.{meet_is, met_again}
 use Rattle.mse_base.proofs.ranges.Ranges.meet.Goals as goal
 
 pub invariant_of-result : goal.invariant_of-result

@@ -5,7 +5,7 @@ use Rattle.std.proofs.lemmas.List.{drop_all}
 use Rattle.mse_base.specs.declared.span.Span.{Span}
 use Rattle.mse_base.specs.Spans.{IsNormalized}
 use Rattle.mse_base.specs.Rows.{row_items, start, row, AreDense}
-use Rattle.mse_base.proofs.Looking.{below_more, above_from}
+use Rattle.mse_base.proofs.RangeLookUps.{below_more, above_from}
 use Rattle.mse_base.proofs.InRows.{row_within, start_all, start_more, few_rows}
 
 -- the first span of row m ends before t

@@ -9,8 +9,8 @@ use Rattle.std.proofs.lemmas.List.Sums.{fold-append}
 use Rattle.mse_base.specs.declared.span.Span.{Span}
 use Rattle.mse_base.specs.Spans.{IsNormalized, reaches}
 use Rattle.mse_base.specs.Meets.{overlap, meet, meet_of_all, overlap_span, overlap_of_two, overlap_of_all}
-use Rattle.mse_base.proofs.Looking.{starts_late}
-use Rattle.mse_base.proofs.Meeting.{meet_normalized}
+use Rattle.mse_base.proofs.RangeLookUps.{starts_late}
+use Rattle.mse_base.proofs.SharedTicks.{meet_normalized}
 
 abbrev both : Span → Span → Span
 both x y = record { start = int_max x.start y.start; end = int_min x.end y.end }

@@ -4,9 +4,9 @@ use Rattle.mse_base.specs.declared.span.Span.{Span}
 use Rattle.mse_base.specs.Spans.{IsBridging, IsDifference}
 use Rattle.mse_base.specs.Bridging.{ranges_with, is_near, is_near_any, ranges_without, IsRanges}
 use Rattle.mse_base.proofs.Sets.{or_swap, or_none, covers-carved}
-use Rattle.mse_base.proofs.Merging.{ranges_join_in, times_join_in}
+use Rattle.mse_base.proofs.JoinedSpans.{ranges_join_in, times_join_in}
 use Rattle.mse_base.proofs.Extended.{bridged_by, normalized_ranges}
-use Rattle.mse_base.proofs.Carving.{nears-append}
+use Rattle.mse_base.proofs.CarvedRanges.{nears-append}
 
 nears-push : (gap t : ℤ) (rs : List Span) (s : Span) → is_near_any gap t (rs ++ s ∷ []) ≡ (is_near gap t s || is_near_any gap t rs)
 nears-push gap t rs s = nears-append gap t rs (s ∷ []) ∙ ap (λ b. is_near_any gap t rs || b) (or_none (is_near gap t s)) ∙ or_swap (is_near_any gap t rs) (is_near gap t s)

@@ -5,7 +5,7 @@ use Rattle.std.proofs.lemmas.Int.{ints}
 use Rattle.std.specs.Int.{int_min, int_max}
 use Rattle.mse_base.specs.declared.span.Span.{Span}
 use Rattle.mse_base.specs.Bridging.{bridged_ranges, ranges_with_all, is_near, is_near_any, IsRanges, span_between, ranges_without}
-use Rattle.mse_base.proofs.Merging.{ranges_bridged, ranges_joined_to, times_bridged, times_joined_to}
+use Rattle.mse_base.proofs.JoinedSpans.{ranges_bridged, ranges_joined_to, times_bridged, times_joined_to}
 use Rattle.mse_base.proofs.Extended.{IsIn, same_near, near_holder, near_by, near_parts, near_is, far_off, end_open, start_open}
 
 or_assoc : (a b c : Bool) → ((a || b) || c) ≡ (a || (b || c))
