@@ -37,7 +37,7 @@ pub record IsPlaceAfter {T : Type 0} (rows : List (List T)) (count : ℕ) (s : B
   pub rank : rank rows s ≡ count
   pub place : IsPlace rows s
 
--- a place of an item, and a place behind an item that is not before it
+-- a place of an item, and one not before it that is behind an item of its block
 pub record AreBounds {T : Type 0} (rows : List (List T)) (s e : BlockPlace) : Type 0 where
   pub from : s.block < length rows
   pub from_index : s.index < length (row rows s.block)

@@ -9,7 +9,7 @@ use Rattle.track_buffers.specs.Numbers.{AreApart, HasBuffers}
 use Rattle.buffer_state.specs.State.{Feed, Content}
 use Rattle.buffer_state.specs.Replies.{CallResult}
 
--- the presentation is one that a byte stream of the container gives: of ADTS frames it has one track
+-- Of ADTS frames the presentation is one that they give, with one track; of MP4 it may be any.
 abbrev pub IsOfContainer : Container → Presentation → Type 0
 IsOfContainer Mp4 p = Unit {0}
 IsOfContainer Adts p = (rate : ℕ) × (p ≡ presentation_of rate)

@@ -51,9 +51,9 @@ pub fn append_refusals()
         → append_result input a f c ≡ append_result_after_eviction input a f c }
 {}
 
-/// A coded frame of the byte stream always finds its track buffer. A new buffer has a track buffer for each video or
-/// audio track of the latest presentation, of which there is none; each call and each step of running work keep that;
-/// and then the coded frame that comes next is of a track that has one.
+/// The coded frame that comes next in a byte stream always finds its track buffer. A new buffer has a track buffer for
+/// each video or audio track of the latest presentation, of which there is none; each call and each step of running work
+/// keep that; and then the coded frame that comes next is of a track that has one.
 pub fn frames_find_their_buffers()
     ensures made { (gap : ℤ) (container : Container) → HasBuffersForFrames (new_feed container None)
         (record { media = new_media gap (has_generated_timestamps container); latest = None }) }

@@ -12,7 +12,7 @@ use Rattle.track_store.specs.Frames.{bytes_of}
 use Rattle.track_store.specs.State.{TrackState}
 use Rattle.track_store.specs.Kept.{IsCountable}
 use Rattle.track_store.specs.Sound.{IsSound, HasPredecessor, IsSuccessor, last_serial, IsNotNegative, AreTogether}
-use Rattle.track_store.proofs.Clearing.{ascending_push, each-push}
+use Rattle.track_store.proofs.ClearedLists.{ascending_push, each-push}
 use Rattle.track_store.proofs.Soundness.{predecessor_last, chained_push, last_push}
 use Rattle.overlap_rules.specs.Overlap.{track_with_room}
 use Rattle.overlap_rules.proofs.Firm.{firm_room, used_room, last_room, end_room}

@@ -32,8 +32,9 @@ pub record AreStoresKept {S : Type 0} (spare : S → ℕ) (gap : S → ℤ) (ind
   pub gaps : gaps_of gap new ≡ gaps_of gap old
   pub len : length new ≡ length old
 
--- The frame was placed: this is what the standard says. Each track that was sound stays so, and all can still be
--- counted; no frame ends later than before or than the group end timestamp; stores and places are kept.
+-- What comes of the frame is what `placement` says. A track that was sound stays so; where all were sound and could be
+-- counted, they still can; their bytes stay below 2^62, and the append window does not start before 0; no frame ends
+-- later than before or than the group end timestamp; stores and places are kept.
 pub record IsPlaced {S : Type 0} (frames : S → List Stored) (spare : S → ℕ) (gap : S → ℤ)
     (index : ℕ) (frame : CodedFrame) (settings : Settings) (old : Room (Track S)) (answer : Placed)
     (new_settings : Settings) (new : Room (Track S)) : Type 0 where

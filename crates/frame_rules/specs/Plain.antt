@@ -6,10 +6,10 @@ use Rattle.frame_rules.specs.declared.timing.Times.{Times}
 use Rattle.frame_rules.specs.declared.timing.Timing.{Timing}
 
 abbrev pub timing_by : Settings → Times → Timing
-timing_by s timing = record {
-  pts = timing.pts;
-  dts = timing.dts;
-  end = timing.end;
+timing_by s times = record {
+  pts = times.pts;
+  dts = times.dts;
+  end = times.end;
   settings = s;
   starts_group = false;
   discontinuity = false;

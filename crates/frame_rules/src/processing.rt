@@ -106,7 +106,7 @@ fn plain_times_at<S: FrameStore>(
     frame: &CodedFrame,
 ) -> Option<Times>
     ensures timing { IfSome (slice_get tracks.now.items index) (λ t. IfSome result
-        (λ timing. Some (timing_by settings.now timing)
+        (λ times. Some (timing_by settings.now times)
         ≡ timing_of settings.now t.marks frame.now)) }
     ensures no_generate { OnSome result (settings.now.generate ≡ false) }
 {

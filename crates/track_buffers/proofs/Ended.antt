@@ -9,7 +9,7 @@ use Rattle.mse_base.specs.declared.span.Span.{Span}
 use Rattle.mse_base.specs.Meets.{overlap, meet, meet_of_all}
 use Rattle.mse_base.specs.Moments.{greatest}
 use Rattle.mse_base.specs.Spans.{reaches, IsNormalized, last_from, last_of}
-use Rattle.mse_base.proofs.Meeting.{all_normalized, meet_normalized}
+use Rattle.mse_base.proofs.SharedTicks.{all_normalized, meet_normalized}
 use Rattle.track_buffers.specs.Buffered.{last_end, last_ends, with_last_end, with_end, with_common_end}
 use Rattle.track_buffers.proofs.Durations.{greatest_bounds, greatest_none}
 use Rattle.track_buffers.proofs.SharedRanges.{grown_all}

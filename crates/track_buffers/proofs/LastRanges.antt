@@ -6,7 +6,7 @@ use Rattle.mse_base.specs.declared.span.Span.{Span}
 use Rattle.mse_base.specs.Spans.{IsNormalized, reaches, last_from, last_of}
 use Rattle.mse_base.specs.Moments.{greatest}
 use Rattle.mse_base.specs.Meets.{meet_of_all, overlap_of_all}
-use Rattle.mse_base.proofs.Holding.{find-meet_of_all}
+use Rattle.mse_base.proofs.RangeAtTime.{find-meet_of_all}
 use Rattle.track_buffers.specs.Buffered.{last_ends, with_last_end, with_end, with_common_end}
 use Rattle.track_buffers.specs.Extended.{span_up_to, last_up_to_end, if_reaches, held_up_to, held_with_end, common_end}
 use Rattle.track_buffers.proofs.SharedRanges.{grown_all, grown_none}

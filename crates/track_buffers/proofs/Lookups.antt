@@ -7,8 +7,8 @@ use Rattle.std.proofs.lemmas.Int.{ints}
 use Rattle.mse_base.specs.declared.span.Span.{Span}
 use Rattle.mse_base.specs.Spans.{reaches, IsNormalized, last_from, last_of}
 use Rattle.mse_base.specs.Meets.{meet_of_all, overlap_of_two}
-use Rattle.mse_base.proofs.Meeting.{all_normalized, meet_push}
-use Rattle.mse_base.proofs.Holding.{find-meet}
+use Rattle.mse_base.proofs.SharedTicks.{all_normalized, meet_push}
+use Rattle.mse_base.proofs.RangeAtTime.{find-meet}
 use Rattle.track_buffers.specs.Buffered.{with_last_end, with_common_end}
 use Rattle.track_buffers.proofs.Loops.{found_at}
 use Rattle.track_buffers.proofs.SharedRanges.{all_here, all_front, lasting_to, last_after}

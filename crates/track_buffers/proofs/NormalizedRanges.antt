@@ -4,7 +4,7 @@ use Rattle.std.specs.List.{AllByRecursion}
 use Rattle.mse_base.specs.declared.span.Span.{Span}
 use Rattle.mse_base.specs.Spans.{IsNormalized}
 use Rattle.mse_base.specs.Meets.{meet_of_all}
-use Rattle.mse_base.proofs.Meeting.{all_normalized}
+use Rattle.mse_base.proofs.SharedTicks.{all_normalized}
 use Rattle.track_buffers.specs.Media.{Media, HasMediaInvariants}
 use Rattle.track_store.specs.Frames.{ranges_of}
 use Rattle.track_store.specs.State.{TrackState}

@@ -10,7 +10,7 @@ use Rattle.mse_base.specs.Bridging.{is_empty, is_far_before, span_round, ranges_
 use Rattle.mse_base.specs.Spans.{RangesView, has_tick, has_tick_in, IsFirstStartAfter, IsNormalized, IsUnion, IsIntersection, last_from, last_of}
 use Rattle.mse_base.proofs.Sets.{covers-append}
 use Rattle.mse_base.proofs.Extended.{normalized_ranges}
-use Rattle.mse_base.proofs.Merging.{ranges_bridged}
+use Rattle.mse_base.proofs.JoinedSpans.{ranges_bridged}
 use Rattle.mse_base.proofs.Neighbours.{one_met}
 use Rattle.track_store.specs.declared.store.Stored.{Stored}
 use Rattle.track_store.specs.declared.tracks.Track.{Track}
@@ -20,7 +20,7 @@ use Rattle.track_store.specs.Kept.{gaps_of}
 use Rattle.track_store.specs.State.{TrackState, states_of}
 use Rattle.track_buffers.specs.Media.{Media}
 use Rattle.mse_base.specs.Meets.{meet, meet_of_all}
-use Rattle.mse_base.proofs.Meeting.{met_meet, all_normalized, covers-all, meet_push}
+use Rattle.mse_base.proofs.SharedTicks.{met_meet, all_normalized, covers-all, meet_push}
 use Rattle.track_buffers.specs.Buffered.{last_end, last_ends, with_last_end, with_end, with_common_end, last_up_to, track_ranges, buffered_of, IsBuffered, ranges_in}
 use Rattle.track_buffers.proofs.Loops.{found_at}
 

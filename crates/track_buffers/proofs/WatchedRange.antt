@@ -15,7 +15,7 @@ use Rattle.mse_base.specs.declared.span.Span.{Span}
 use Rattle.mse_base.specs.Spans.{reaches, IsNormalized}
 use Rattle.mse_base.specs.Meets.{overlap_of_two, overlap_of_all}
 use Rattle.mse_base.proofs.AnyOrder.{apart, between}
-use Rattle.mse_base.proofs.Holding.{find-meet_of_all}
+use Rattle.mse_base.proofs.RangeAtTime.{find-meet_of_all}
 use Rattle.track_store.specs.declared.store.Stored.{Stored}
 use Rattle.track_store.specs.declared.tracks.Track.{Track}
 use Rattle.track_store.specs.Frames.{ranges_of}

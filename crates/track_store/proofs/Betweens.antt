@@ -8,7 +8,7 @@ use Rattle.mse_base.specs.declared.ticks.Moment.{Moment}
 use Rattle.track_store.specs.declared.store.Stored.{Stored}
 use Rattle.track_store.specs.Frames.{frames_without, has_serial, is_between, is_within, IsAscending}
 use Rattle.track_store.specs.Named.{AreNamedBelow, AreNamedWith}
-use Rattle.track_store.proofs.Clearing.{each_at, cleared-cleared, cleared-same}
+use Rattle.track_store.proofs.ClearedLists.{each_at, cleared-cleared, cleared-same}
 
 -- each frame of an ascending list is before its last, or is its last
 before_last : (fs : List Stored) (x : Stored) → IsAscending fs → slice_get fs (length fs - 1) ≡ Some x → AllByRecursion (λ f. (f.serial < x.serial) ⊎ (f ≡ x)) fs

@@ -13,7 +13,7 @@ use Rattle.track_store.specs.declared.calls.StoreCall.{StoreCall}
 use Rattle.track_store.specs.declared.calls.StoreCall.TheVariants.{Change, Look}
 use Rattle.track_store.specs.Frames.{IsAscending, frame_at, has_serial}
 use Rattle.track_store.specs.Calls.{AnswerView, Frames, Bytes, Frame, Place, Time, Range, Ranges, NoMemory, CallRun, frames_after, frames_after_call, room_after, room_after_call, IsAddable, IsAllowedChange, IsAllowed, answer_of, place_of_frame, IsGiven, AreGiven, run_after, run_of, IsCallRun, IsSameAnswer, AreSameAnswers}
-use Rattle.track_store.proofs.Clearing.{each_at}
+use Rattle.track_store.proofs.ClearedLists.{each_at}
 
 at_frame : (fs : List Stored) (i : ℕ) → i < length fs → (x : Stored) × (slice_get fs i ≡ Some x)
 at_frame fs i low = elim (slice_get_cases fs i).1 [ inl found ↦ (found.0, found.2) | inr past ↦ absurd (omega arith) ]

@@ -1,11 +1,11 @@
 pub mod Betweens
-pub mod Clearing
-pub mod Counting
-pub mod Folding
-pub mod Grouping
+pub mod ClearedLists
+pub mod ByteCounts
+pub mod TestedFolds
+pub mod LastPlaces
 pub mod Limits
-pub mod Listing
-pub mod Overlapping
+pub mod PlainStore
+pub mod LastOverlap
 pub mod CallRuns
 pub mod Soundness
 pub mod StillSound

@@ -6,7 +6,7 @@ use Rattle.std.proofs.lemmas.Bool.{cases_lt}
 use Rattle.track_store.specs.declared.store.Stored.{Stored}
 use Rattle.track_store.specs.Frames.{frames_left, IsAscending, frames_with_dur, has_serial, with_dur, from_sync}
 use Rattle.track_store.specs.Sound.{HasPredecessor, IsDecodable, IsSuccessor, IsChained, last_serial}
-use Rattle.track_store.proofs.Clearing.{is_frame_gone, cleared-goes, cleared-stays}
+use Rattle.track_store.proofs.ClearedLists.{is_frame_gone, cleared-goes, cleared-stays}
 
 -- where no frame is named all stay
 pub cleared-unnamed : (named : Stored → Bool) (fs : List Stored) → AllByRecursion (λ f. named f ≡ false) fs → frames_left false named fs ≡ fs

@@ -3,7 +3,7 @@ use Rattle.std.proofs.lemmas.Int.{ints}
 use Rattle.mse_base.specs.declared.span.Span.{Span}
 use Rattle.mse_base.specs.Meets.{meet_of_all}
 use Rattle.mse_base.specs.Spans.{first_of}
-use Rattle.mse_base.proofs.Meeting.{all_normalized}
+use Rattle.mse_base.proofs.SharedTicks.{all_normalized}
 use Rattle.mse_base.proofs.Firsts.{HasNoneBefore, first_is, first_none, none_before_it}
 use Rattle.track_buffers.specs.Buffered.{with_end, ranges_in}
 use Rattle.track_buffers.proofs.FirstAndLastRange.{first_round, gap_falls_up, none_before_zero}

@@ -1,7 +1,7 @@
 use Rattle.std.proofs.Common.{◌∙◌, ◌<ℤ◌, ◌≤ℤ◌, ◌^◌, pos, neg_ℤ, Some, None, sym, arith}
 use Rattle.std.proofs.lemmas.Int.{ints}
 use Rattle.mse_base.specs.Meets.{meet_of_all}
-use Rattle.mse_base.proofs.Meeting.{all_normalized}
+use Rattle.mse_base.proofs.SharedTicks.{all_normalized}
 use Rattle.mse_base.proofs.Lasts.{last_is, last_none, none_from_it}
 use Rattle.track_buffers.specs.Buffered.{ranges_in}
 use Rattle.track_buffers.proofs.FirstAndLastRange.{gap_falls_down, last_round, no_last, none_from_highest}

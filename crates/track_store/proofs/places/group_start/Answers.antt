@@ -1,5 +1,5 @@
 use Rattle.std.proofs.Common.{◌∙◌, sym, arith, true, false}
-use Rattle.track_store.proofs.Grouping.{last_place_back}
+use Rattle.track_store.proofs.LastPlaces.{last_place_back}
 use Rattle.track_store.proofs.places.group_start.Goals as goal
 
 pub returns-then-frames-place : goal.returns-then-frames-place

@@ -3,8 +3,8 @@ use Rattle.std.specs.List.{AllByRecursion}
 use Rattle.track_store.specs.declared.store.Stored.{Stored}
 use Rattle.track_store.specs.Named.{is_named}
 use Rattle.track_store.specs.Frames.{IsTimed, ranges_of}
-use Rattle.track_store.proofs.Clearing.{each-cleared}
-use Rattle.track_store.proofs.Listing.{listed_cleared}
+use Rattle.track_store.proofs.ClearedLists.{each-cleared}
+use Rattle.track_store.proofs.PlainStore.{listed_cleared}
 use Rattle.track_store.proofs.list_store.ListStore.remove.Goals as goal
 
 pub rejoin-requires-clause-timed : goal.rejoin-requires-clause-timed

@@ -1,7 +1,7 @@
 use Rattle.std.proofs.Common.{◌+◌, ◌≤◌, ◌∙◌, ap, length, arith}
 use Rattle.mse_base.specs.declared.span.Span.{Span}
 use Rattle.mse_base.specs.Bridging.{ranges_with}
-use Rattle.track_store.proofs.Listing.{few_ranges, are_ranges, listed_push}
+use Rattle.track_store.proofs.PlainStore.{few_ranges, are_ranges, listed_push}
 use Rattle.track_store.proofs.list_store.ListStoreFrameStore.add.Goals as goal
 
 pub add_span-requires-clause-room : goal.add_span-requires-clause-room

@@ -5,8 +5,8 @@ use Rattle.std.proofs.lemmas.List.{length-set}
 use Rattle.mse_base.specs.Time.{IsTick}
 use Rattle.track_store.specs.declared.store.Stored.{Stored}
 use Rattle.track_store.specs.Frames.{IsTimed, ranges_of, with_dur}
-use Rattle.track_store.proofs.Clearing.{shortened_at}
-use Rattle.track_store.proofs.Listing.{timed_cut, listed_cut}
+use Rattle.track_store.proofs.ClearedLists.{shortened_at}
+use Rattle.track_store.proofs.PlainStore.{timed_cut, listed_cut}
 use Rattle.track_store.proofs.list_store.ListStoreFrameStore.cut.Goals as goal
 
 pub rejoin-requires-clause-timed : goal.rejoin-requires-clause-timed

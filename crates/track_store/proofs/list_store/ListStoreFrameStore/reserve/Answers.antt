@@ -1,5 +1,5 @@
 use Rattle.std.proofs.Common.{arith}
-use Rattle.track_store.proofs.Listing.{few_ranges}
+use Rattle.track_store.proofs.PlainStore.{few_ranges}
 use Rattle.track_store.proofs.list_store.ListStoreFrameStore.reserve.Goals as goal
 
 pub overflow_sub-len : goal.overflow_sub-len

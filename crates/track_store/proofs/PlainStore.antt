@@ -7,11 +7,11 @@ use Rattle.std.proofs.lemmas.List.Sums.{fold-append}
 use Rattle.mse_base.specs.Time.{IsTick}
 use Rattle.mse_base.specs.declared.span.Span.{Span}
 use Rattle.mse_base.specs.Bridging.{IsRanges, ranges_with, bridged_ranges}
-use Rattle.mse_base.proofs.Merging.{ranges_bridged, length_bridged}
+use Rattle.mse_base.proofs.JoinedSpans.{ranges_bridged, length_bridged}
 use Rattle.track_store.specs.declared.store.Stored.{Stored}
 use Rattle.track_store.specs.Frames.{IsTimed, bytes_of, interval, intervals, ranges_of, frames_left, with_dur}
 use Rattle.track_store.specs.Listed.{IsPlainStore}
-use Rattle.track_store.proofs.Clearing.{kept_push, kept-cleared, kept-shortened, each-cleared, each-push, shortened_at}
+use Rattle.track_store.proofs.ClearedLists.{kept_push, kept-cleared, kept-shortened, each-cleared, each-push, shortened_at}
 
 join_push : (gap : ℤ) (fs : List Stored) (x : Stored) → ranges_of gap (fs ++ x ∷ []) ≡ ranges_with gap (ranges_of gap fs) (interval x)
 join_push gap fs x = ap (bridged_ranges gap) (map_push interval fs x) ∙ fold-append (ranges_with gap) [] (intervals fs) (interval x ∷ [])
