@@ -10,14 +10,14 @@ use Rattle.track_store.specs.Frames.{ends, is_in_frame, overlapped}
 use Rattle.track_store.specs.Sound.{IsSound}
 use Rattle.track_store.specs.State.{TrackState}
 use Rattle.track_store.proofs.Limits.{highest_bounds, highest_none}
-use Rattle.track_store.proofs.Overlapping.{overlapped-covers}
+use Rattle.track_store.proofs.LastOverlap.{overlapped-covers}
 use Rattle.decoder_feed.specs.Feed.{IsGroupUpTo, IsLastOf, feed_of}
 use Rattle.decoder_feed.specs.Runs.{AreGiven}
 use Rattle.decoder_feed.specs.Steps.{feeder_after_seek}
 use Rattle.decoder_feed.proofs.FeederAnswers.{feed_given}
 use Rattle.decoder_feed.proofs.Groups.{HasPlaceIn, feed_group, shown_placed}
 use Rattle.feed_lines.specs.Groups.{end_of, feeding, IsEnd}
-use Rattle.feed_lines.specs.Lines.{feed_text, groups_text, none_line, text_by}
+use Rattle.feed_lines.specs.Lines.{lines_of_track, groups_lines, none_line, lines_by}
 use Rattle.feed_lines.proofs.FeederAnswers.{AreEnough, ends_in_three, frames_same, front_of_all, idle_frames}
 
 -- when a frame ends
@@ -174,48 +174,48 @@ later-length at (f ∷ fs) = by (int_lt at (end f)) (later-length at fs)
 
 -- ---- as many groups as frames that end later are enough
 
-none_by : (n : ℕ) (at : ℤ) (t : TrackState) → overlapped at t.frames ≡ None → groups_text n at t ≡ none_line t.id at
+none_by : (n : ℕ) (at : ℤ) (t : TrackState) → overlapped at t.frames ≡ None → groups_lines n at t ≡ none_line t.id at ∷ []
 none_by zero at t is = refl
-none_by (suc n) at t is = ap (λ o. text_by o at t (groups_text n (end_of at (feeding at t).frames) t)) is
+none_by (suc n) at t is = ap (λ o. lines_by o at t (groups_lines n (end_of at (feeding at t).frames) t)) is
 
-pub nothing_shown : (n : ℕ) (at : ℤ) (t : TrackState) → overlapped at t.frames ≡ None → groups_text n at t ≡ none_line t.id at
+pub nothing_shown : (n : ℕ) (at : ℤ) (t : TrackState) → overlapped at t.frames ≡ None → groups_lines n at t ≡ none_line t.id at ∷ []
 nothing_shown n at t is = none_by n at t is
 
 same_step : (n m : ℕ) (at : ℤ) (t : TrackState) (o : Option Stored) → IsSound t → overlapped at t.frames ≡ o → later at t.frames ≤ n → later at t.frames ≤ m
-    → ((k : ℕ) (at' : ℤ) (j : ℕ) → n ≡ suc k → later at' t.frames ≤ k → later at' t.frames ≤ j → groups_text k at' t ≡ groups_text j at' t) → groups_text n at t ≡ groups_text m at t
+    → ((k : ℕ) (at' : ℤ) (j : ℕ) → n ≡ suc k → later at' t.frames ≤ k → later at' t.frames ≤ j → groups_lines k at' t ≡ groups_lines j at' t) → groups_lines n at t ≡ groups_lines m at t
 same_step n m at t None sound is a b ih = none_by n at t is ∙ sym (none_by m at t is)
 same_step zero m at t (Some wanted) sound is a b ih = let less = goes_on at t wanted sound is in absurd (omega (arith, less))
 same_step (suc n) zero at t (Some wanted) sound is a b ih = let less = goes_on at t wanted sound is in absurd (omega (arith, less))
 same_step (suc n) (suc m) at t (Some wanted) sound is a b ih =
     let less = goes_on at t wanted sound is in
-    ap (λ xs. text_by (overlapped at t.frames) at t xs) (ih n (end_of at (feeding at t).frames) m refl (omega (arith, less)) (omega (arith, less)))
+    ap (λ xs. lines_by (overlapped at t.frames) at t xs) (ih n (end_of at (feeding at t).frames) m refl (omega (arith, less)) (omega (arith, less)))
 
-pub same_text : (n m : ℕ) (at : ℤ) (t : TrackState) → IsSound t → later at t.frames ≤ n → later at t.frames ≤ m → groups_text n at t ≡ groups_text m at t
-same_text zero m at t sound a b = same_step zero m at t (overlapped at t.frames) sound refl a b (λ k at' j e h g. cc)
-same_text (suc n) m at t sound a b =
+pub same_lines : (n m : ℕ) (at : ℤ) (t : TrackState) → IsSound t → later at t.frames ≤ n → later at t.frames ≤ m → groups_lines n at t ≡ groups_lines m at t
+same_lines zero m at t sound a b = same_step zero m at t (overlapped at t.frames) sound refl a b (λ k at' j e h g. cc)
+same_lines (suc n) m at t sound a b =
     same_step (suc n) m at t (overlapped at t.frames) sound refl a b
-    (λ k at' j e h g. let same : n ≡ k = cc in subst (λ i. groups_text i at' t ≡ groups_text j at' t) same (same_text n j at' t sound (subst (λ i. later at' t.frames ≤ i) (sym same) h) g))
+    (λ k at' j e h g. let same : n ≡ k = cc in subst (λ i. groups_lines i at' t ≡ groups_lines j at' t) same (same_lines n j at' t sound (subst (λ i. later at' t.frames ≤ i) (sym same) h) g))
 
 -- the group of the frame that is shown, and the rest
 one_by : (n : ℕ) (at : ℤ) (t : TrackState) (wanted : Stored) → IsSound t → overlapped at t.frames ≡ Some wanted → later at t.frames ≤ n
-    → groups_text n at t ≡ text_by (Some wanted) at t (groups_text (later (end_of at (feeding at t).frames) t.frames) (end_of at (feeding at t).frames) t)
+    → groups_lines n at t ≡ lines_by (Some wanted) at t (groups_lines (later (end_of at (feeding at t).frames) t.frames) (end_of at (feeding at t).frames) t)
 one_by zero at t wanted sound is h = let less = goes_on at t wanted sound is in absurd (omega (arith, less))
 one_by (suc n) at t wanted sound is h =
     let next : ℤ = end_of at (feeding at t).frames in
     let less = goes_on at t wanted sound is in
-    ap (λ o. text_by o at t (groups_text n next t)) is
-    ∙ ap (λ xs. text_by (Some wanted) at t xs) (same_text n (later next t.frames) next t sound (omega (arith, less)) (omega arith))
+    ap (λ o. lines_by o at t (groups_lines n next t)) is
+    ∙ ap (λ xs. lines_by (Some wanted) at t xs) (same_lines n (later next t.frames) next t sound (omega (arith, less)) (omega arith))
 
 pub one_group : (at : ℤ) (t : TrackState) (wanted : Stored) → IsSound t → overlapped at t.frames ≡ Some wanted
-    → groups_text (later at t.frames) at t ≡ text_by (Some wanted) at t (groups_text (later (end_of at (feeding at t).frames) t.frames) (end_of at (feeding at t).frames) t)
+    → groups_lines (later at t.frames) at t ≡ lines_by (Some wanted) at t (groups_lines (later (end_of at (feeding at t).frames) t.frames) (end_of at (feeding at t).frames) t)
 one_group at t wanted sound is = one_by (later at t.frames) at t wanted sound is (omega arith)
 
-pub all_groups : (from : ℤ) (t : TrackState) → IsSound t → feed_text from t ≡ groups_text (later from t.frames) from t
-unfolding feed_text
-all_groups from t sound = same_text (length t.frames) (later from t.frames) from t sound (later-length from t.frames) (omega arith)
+pub all_groups : (from : ℤ) (t : TrackState) → IsSound t → lines_of_track from t ≡ groups_lines (later from t.frames) from t
+unfolding lines_of_track
+all_groups from t sound = same_lines (length t.frames) (later from t.frames) from t sound (later-length from t.frames) (omega arith)
 
 -- ---- laws
 
-pub enough_groups : (at : ℤ) (t : TrackState) (n : ℕ) → IsSound t → length t.frames ≤ n → groups_text n at t ≡ feed_text at t
-unfolding feed_text
-enough_groups at t n sound few = let late = later-length at t.frames in same_text n (length t.frames) at t sound (omega (arith, late)) late
+pub enough_groups : (at : ℤ) (t : TrackState) (n : ℕ) → IsSound t → length t.frames ≤ n → groups_lines n at t ≡ lines_of_track at t
+unfolding lines_of_track
+enough_groups at t n sound few = let late = later-length at t.frames in same_lines n (length t.frames) at t sound (omega (arith, late)) late

@@ -1,7 +1,6 @@
 -- The lines of a track by `feed` (docs/SCRIPTS.md, commands).
-use Rattle.std.specs.Prelude.{ℕ, zero, suc, ℤ, List, [], ◌∷◌, ◌++◌, length, codes, Option, Some, None}
+use Rattle.std.specs.Prelude.{ℕ, zero, suc, ℤ, List, [], ◌∷◌, ◌++◌, length, map, codes, Option, Some, None}
 use Rattle.std.specs.Fmt.{decimal, signed_decimal}
-use Rattle.std.specs.List.{flat_map}
 use Rattle.event_text.specs.Words.{bool_text, line, words}
 use Rattle.track_store.specs.declared.store.Stored.{Stored}
 use Rattle.track_store.specs.Frames.{overlapped}
@@ -47,23 +46,23 @@ abbrev pub end_line : FeedNext → List ℕ
 end_line answer = line (codes "end" ∷ answer_text answer ∷ [])
 
 -- the frames that are given to show the frame at a time, and why no more are
-abbrev pub given_text : ℤ → TrackState → List ℕ
-given_text at t =
-    flat_map frame_line (feeding at t).frames ++ end_line (feeding at t).end
+abbrev pub given_lines : ℤ → TrackState → List (List ℕ)
+given_lines at t =
+    map frame_line (feeding at t).frames ++ end_line (feeding at t).end ∷ []
 
 -- what is given to show a frame at a time, and then what follows; where no frame is shown, that is all
-abbrev pub text_by : Option Stored → ℤ → TrackState → List ℕ → List ℕ
-text_by None at t rest = none_line t.id at
-text_by (Some wanted) at t rest = wanted_line t.id at wanted.serial ++ (given_text at t ++ rest)
+abbrev pub lines_by : Option Stored → ℤ → TrackState → List (List ℕ) → List (List ℕ)
+lines_by None at t rest = none_line t.id at ∷ []
+lines_by (Some wanted) at t rest = wanted_line t.id at wanted.serial ∷ (given_lines at t ++ rest)
 
 -- What is given to show a time, and then what is given to show the time at which that ends, in so many groups at most:
 -- behind them no frame is shown.
-abbrev pub groups_text : ℕ → ℤ → TrackState → List ℕ
-groups_text zero at t = none_line t.id at
-groups_text (suc more) at t =
-    text_by (overlapped at t.frames) at t (groups_text more (end_of at (feeding at t).frames) t)
+abbrev pub groups_lines : ℕ → ℤ → TrackState → List (List ℕ)
+groups_lines zero at t = none_line t.id at ∷ []
+groups_lines (suc more) at t =
+    lines_by (overlapped at t.frames) at t (groups_lines more (end_of at (feeding at t).frames) t)
 
 -- The lines of a track from a time on. Each group ends later than the one before it, at the end of a frame, so that
 -- there are at most as many as frames.
-unfoldable pub feed_text : ℤ → TrackState → List ℕ
-feed_text at t = groups_text (length t.frames) at t
+unfoldable pub lines_of_track : ℤ → TrackState → List (List ℕ)
+lines_of_track at t = groups_lines (length t.frames) at t

@@ -101,9 +101,9 @@ fn end_line(alloc: Global, answer: FeedNext) -> Result<String, AllocError>
 ///
 /// An `Err` is a failed put or want of memory; then a front of the line was written.
 pub fn put_none<K: Sink>(alloc: Global, sink: &mut K, id: u32, at: Ticks) -> Result<(), Halt>
-    ensures ok { OnOk result (IsWritten (none_line id at) (K.written sink.old)
+    ensures ok { OnOk result (IsWritten (none_line id at ∷ []) (K.written sink.old)
         (K.written sink.new)) }
-    ensures err { OnErr result (IsFrontWritten (none_line id at) (K.written sink.old)
+    ensures err { OnErr result (IsFrontWritten (none_line id at ∷ []) (K.written sink.old)
         (K.written sink.new)) }
     ensures no_fewer_faults { K.faults sink.old ≤ K.faults sink.new }
     ensures cause { IsErrOf result Halt.Write → HasRisen (K.faults sink.old) (K.faults sink.new) }
@@ -126,9 +126,9 @@ pub fn put_wanted<K: Sink>(
     at: Ticks,
     serial: u64,
 ) -> Result<(), Halt>
-    ensures ok { OnOk result (IsWritten (wanted_line id at serial) (K.written sink.old)
+    ensures ok { OnOk result (IsWritten (wanted_line id at serial ∷ []) (K.written sink.old)
         (K.written sink.new)) }
-    ensures err { OnErr result (IsFrontWritten (wanted_line id at serial) (K.written sink.old)
+    ensures err { OnErr result (IsFrontWritten (wanted_line id at serial ∷ []) (K.written sink.old)
         (K.written sink.new)) }
     ensures no_fewer_faults { K.faults sink.old ≤ K.faults sink.new }
     ensures cause { IsErrOf result Halt.Write → HasRisen (K.faults sink.old) (K.faults sink.new) }
@@ -144,9 +144,9 @@ pub fn put_wanted<K: Sink>(
 ///
 /// An `Err` is a failed put or want of memory; then a front of the line was written.
 pub fn put_frame<K: Sink>(alloc: Global, sink: &mut K, stored: &Stored) -> Result<(), Halt>
-    ensures ok { OnOk result (IsWritten (frame_line stored.now) (K.written sink.old)
+    ensures ok { OnOk result (IsWritten (frame_line stored.now ∷ []) (K.written sink.old)
         (K.written sink.new)) }
-    ensures err { OnErr result (IsFrontWritten (frame_line stored.now) (K.written sink.old)
+    ensures err { OnErr result (IsFrontWritten (frame_line stored.now ∷ []) (K.written sink.old)
         (K.written sink.new)) }
     ensures no_fewer_faults { K.faults sink.old ≤ K.faults sink.new }
     ensures cause { IsErrOf result Halt.Write → HasRisen (K.faults sink.old) (K.faults sink.new) }
@@ -162,9 +162,9 @@ pub fn put_frame<K: Sink>(alloc: Global, sink: &mut K, stored: &Stored) -> Resul
 ///
 /// An `Err` is a failed put or want of memory; then a front of the line was written.
 pub fn put_end<K: Sink>(alloc: Global, sink: &mut K, answer: FeedNext) -> Result<(), Halt>
-    ensures ok { OnOk result (IsWritten (end_line answer) (K.written sink.old)
+    ensures ok { OnOk result (IsWritten (end_line answer ∷ []) (K.written sink.old)
         (K.written sink.new)) }
-    ensures err { OnErr result (IsFrontWritten (end_line answer) (K.written sink.old)
+    ensures err { OnErr result (IsFrontWritten (end_line answer ∷ []) (K.written sink.old)
         (K.written sink.new)) }
     ensures no_fewer_faults { K.faults sink.old ≤ K.faults sink.new }
     ensures cause { IsErrOf result Halt.Write → HasRisen (K.faults sink.old) (K.faults sink.new) }

@@ -8,7 +8,7 @@ ghost use Rattle.track_store.specs.Sound.{IsSound};
 ghost use Rattle.track_store.specs.State.{state_of};
 ghost use Rattle.decoder_feed.specs.Steps.{feeder_after_seek};
 ghost use Rattle.feed_lines.specs.Groups.{end_of, feeding};
-ghost use Rattle.feed_lines.specs.Lines.{feed_text, given_text};
+ghost use Rattle.feed_lines.specs.Lines.{lines_of_track, given_lines};
 
 use crate::lines::{put_end, put_frame, put_none, put_wanted};
 use decoder_feed::{FeedNext, Feeder};
@@ -32,9 +32,9 @@ fn put_given<S: FrameStore, K: Sink>(
     requires sought { feeder.old ≡ feeder_after_seek at (S.frames track.now.store) }
     ensures end { IfOk result (λ end. end
         ≡ end_of at (feeding at (state_of S.frames track.now)).frames) }
-    ensures ok { OnOk result (IsWritten (given_text at (state_of S.frames track.now))
+    ensures ok { OnOk result (IsWritten (given_lines at (state_of S.frames track.now))
         (K.written sink.old) (K.written sink.new)) }
-    ensures err { OnErr result (IsFrontWritten (given_text at (state_of S.frames track.now))
+    ensures err { OnErr result (IsFrontWritten (given_lines at (state_of S.frames track.now))
         (K.written sink.old) (K.written sink.new)) }
     ensures no_fewer_faults { K.faults sink.old ≤ K.faults sink.new }
     ensures cause { IsErrOf result Halt.Write → HasRisen (K.faults sink.old) (K.faults sink.new) }
@@ -73,9 +73,9 @@ pub fn put_feeds<S: FrameStore, K: Sink>(
     from: Ticks,
 ) -> Result<(), Halt>
     requires { IsSound (state_of S.frames track.now) }
-    ensures ok { OnOk result (IsWritten (feed_text from (state_of S.frames track.now))
+    ensures ok { OnOk result (IsWritten (lines_of_track from (state_of S.frames track.now))
         (K.written sink.old) (K.written sink.new)) }
-    ensures err { OnErr result (IsFrontWritten (feed_text from (state_of S.frames track.now))
+    ensures err { OnErr result (IsFrontWritten (lines_of_track from (state_of S.frames track.now))
         (K.written sink.old) (K.written sink.new)) }
     ensures no_fewer_faults { K.faults sink.old ≤ K.faults sink.new }
     ensures cause { IsErrOf result Halt.Write → HasRisen (K.faults sink.old) (K.faults sink.new) }

@@ -141,8 +141,8 @@ fn serve<S: FrameStore>(
 /// Tells an event to each listener in turn. A listener that heard it is asked for calls until it has
 /// no further one, first with no answer and then each time with that of the call just made; each call
 /// is made on the engine at once, and stands in the journal. Only then does the next listener hear
-/// the event. The listeners may make `left` calls more together. Each stays at its place, and answers
-/// by its way.
+/// the event. The listeners may make `left` calls more together. Each stays at its place and keeps
+/// its way, and answers by its way where it tells one.
 ///
 /// `CallBudget` where a listener answers with a call after 1,000 calls for this event, `TaskBudget`
 /// where one answers with a call and no call is left, and `OutOfMemory`. The dispatch ends there:

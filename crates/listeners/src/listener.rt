@@ -49,7 +49,7 @@ pub trait Listener: Drop {
         ensures err { OnErr result (notes self.new ≡ notes self.old) };
 
     /// Tells it what its last call answered, if it made one, and asks it for a call. After want of
-    /// memory it was told and asked nothing. It answers what its way gives.
+    /// memory it was told and asked nothing. Where it tells its way, it answers what that gives.
     fn next(&mut self, last: Option<&Answer>) -> Result<Option<Call>, OutOfMemory>
         ensures way { way self.new ≡ way self.old }
         ensures rules { rules self.new ≡ rules self.old }

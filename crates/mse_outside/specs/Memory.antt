@@ -19,10 +19,16 @@ pub record LibraryState : Type 0 where
   pub calls : ℕ
   pub faults : ℕ
 
--- a sink in memory: its bytes, the numbers of the puts that fail with how many bytes they append, how many puts there
--- were, how many failed
+-- a sink in memory that never fails: its bytes, and those of each put
+pub record SureSinkState : Type 0 where
+  pub written : List ℕ
+  pub puts : List (List ℕ)
+
+-- a sink in memory: its bytes, those of each put, the numbers of the puts that fail with how many bytes they append, how
+-- many puts there were, how many failed
 pub record SinkState : Type 0 where
   pub written : List ℕ
+  pub puts : List (List ℕ)
   pub failing : List (ℕ × ℕ)
   pub calls : ℕ
   pub faults : ℕ
@@ -58,9 +64,14 @@ appended_by (Some count) bytes = take count bytes
 
 -- the state after a put with this answer
 abbrev pub after_put : SinkState → List ℕ → Put → SinkState
-after_put s bytes PutDone = record s { written = s.written ++ bytes; calls = next_count s.calls }
+after_put s bytes PutDone = record s {
+  written = s.written ++ bytes;
+  puts = s.puts ++ bytes ∷ [];
+  calls = next_count s.calls;
+}
 after_put s bytes PutFailed = record s {
   written = s.written ++ appended_by (failed_len_at s.failing (next_count s.calls)) bytes;
+  puts = s.puts ++ bytes ∷ [];
   calls = next_count s.calls;
   faults = next_count s.faults;
 }

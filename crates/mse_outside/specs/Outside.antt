@@ -1,5 +1,5 @@
 -- What a library of files and a sink of bytes answer, and when.
-use Rattle.std.specs.Prelude.{ℕ, ◌≤◌, ◌≡◌, List, ◌++◌, Option, Some, None, IsSomeAnd}
+use Rattle.std.specs.Prelude.{ℕ, ◌≤◌, ◌≡◌, ◌⊎◌, List, [], ◌∷◌, ◌++◌, Option, None, IfSome, IsSomeAnd}
 use Rattle.mse_outside.specs.Count.{next_count}
 use Rattle.mse_outside.specs.declared.library.Loaded.{Loaded}
 use Rattle.mse_outside.specs.declared.library.Loaded.TheVariants.{Done as LoadDone, NoFile, Failed as LoadFailed, OutOfMemory as LoadOutOfMemory}
@@ -30,14 +30,31 @@ IsLoadEffect file old new NoFile = file ≡ None
 IsLoadEffect file old new LoadFailed = Unit {0}
 IsLoadEffect file old new LoadOutOfMemory = Unit {0}
 
--- what the answer to a put says of the written bytes
-abbrev pub IsPutEffect : List ℕ → List ℕ → List ℕ → Put → Type 0
-IsPutEffect bytes old new PutDone = new ≡ old ++ bytes
-IsPutEffect bytes old new PutFailed = HasFrontAppended bytes old new
-IsPutEffect bytes old new PutOutOfMemory = HasFrontAppended bytes old new
+-- What a sink tells of what it was given: the bytes that it appended, and the bytes that each put handed over, in order.
+pub record SinkView : Type 0 where
+  pub bytes : Option (List ℕ)
+  pub puts : Option (List (List ℕ))
 
--- the same where the written bytes are told; a sink that tells them goes on telling them
-abbrev pub IsPutEffectIfKnown : List ℕ → Option (List ℕ) → Option (List ℕ) → Put → Type 0
-IsPutEffectIfKnown bytes None new answer = Unit {0}
-IsPutEffectIfKnown bytes (Some old) new answer =
-    IsSomeAnd new (λ now. IsPutEffect bytes old now answer)
+abbrev pub sink_view : Option (List ℕ) → Option (List (List ℕ)) → SinkView
+sink_view bytes puts = record { bytes = bytes; puts = puts }
+
+-- what the answer to a put says of the bytes that were appended
+abbrev pub IsPutAppended : List ℕ → List ℕ → List ℕ → Put → Type 0
+IsPutAppended bytes old new PutDone = new ≡ old ++ bytes
+IsPutAppended bytes old new PutFailed = HasFrontAppended bytes old new
+IsPutAppended bytes old new PutOutOfMemory = HasFrontAppended bytes old new
+
+-- what it says of the puts: this one came; one that found no memory may not be told
+abbrev pub IsPutListed : List ℕ → List (List ℕ) → List (List ℕ) → Put → Type 0
+IsPutListed bytes old new PutDone = new ≡ old ++ bytes ∷ []
+IsPutListed bytes old new PutFailed = new ≡ old ++ bytes ∷ []
+IsPutListed bytes old new PutOutOfMemory = (new ≡ old ++ bytes ∷ []) ⊎ (new ≡ old)
+
+-- something holds of what was told and of what is; a sink that tells goes on telling
+abbrev pub IfTold : {X : Type 0} → Option X → Option X → (X → X → Type 0) → Type 0
+IfTold old new holds = IfSome old (λ before. IsSomeAnd new (λ now. holds before now))
+
+-- what the answer to a put says of what the sink tells
+pub record IsPutEffect (bytes : List ℕ) (old new : SinkView) (answer : Put) : Type 0 where
+  pub appended : IfTold old.bytes new.bytes (λ before now. IsPutAppended bytes before now answer)
+  pub listed : IfTold old.puts new.puts (λ before now. IsPutListed bytes before now answer)

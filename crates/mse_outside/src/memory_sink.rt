@@ -1,12 +1,12 @@
 //! Sinks in memory.
 
-ghost use Rattle.std.specs.Prelude.{◌≡◌, ◌≢◌, ◌++◌, [], ℕ, List, Option, Some, None, IsSome, take};
+ghost use Rattle.std.specs.Prelude.{◌≡◌, ◌≢◌, ◌++◌, ◌∷◌, [], ℕ, List, Option, Some, None, IsSome, OnOk, OnErr, map, take};
 ghost use Rattle.mse_outside.specs.Count.{next_count};
-ghost use Rattle.mse_outside.specs.Outside.{IsPutEffectIfKnown};
-ghost use Rattle.mse_outside.specs.Memory.{SinkState, failed_len_at, after_put};
+ghost use Rattle.mse_outside.specs.Outside.{IsPutEffect, sink_view};
+ghost use Rattle.mse_outside.specs.Memory.{SinkState, SureSinkState, failed_len_at, after_put};
 
 use crate::{Put, Sink};
-use std::alloc::Global;
+use std::alloc::{AllocError, Global};
 use std::marker::Model;
 
 /// How many bytes the put of this number appends, where it fails.
@@ -21,10 +21,39 @@ fn find_cut(failing: &[(u64, u64)], call: u64) -> Option<u64>
     None
 }
 
-/// Keeps the bytes in memory. Puts that were chosen fail, and all others succeed where there is memory.
+/// Keeps the bytes of a put, and appends a part of them. An `Err` changes nothing.
+fn keep_put(
+    alloc: Global,
+    puts: &mut Vec<Vec<u8>>,
+    written: &mut Vec<u8>,
+    bytes: &[u8],
+    part: &[u8],
+) -> Result<(), AllocError>
+    ensures appended { OnOk result (written.new.items ≡ written.old.items ++ part.now) }
+    ensures listed { OnOk result (map (λ put. put.items) puts.new.items
+        ≡ map (λ put. put.items) puts.old.items ++ bytes.now ∷ []) }
+    ensures no_bytes { OnErr result (written.new.items ≡ written.old.items) }
+    ensures no_put { OnErr result (map (λ put. put.items) puts.new.items
+        ≡ map (λ put. put.items) puts.old.items) }
+{
+    let copy = bytes.to_vec(alloc)?;
+    puts.push(copy)?;
+    match written.extend_from_slice(part) {
+        Ok(()) => Ok(()),
+        Err(error) => {
+            puts.pop();
+            Err(error)
+        }
+    }
+}
+
+/// Keeps the bytes, and those of each put, in memory. Puts that were chosen fail, and all others succeed where there is
+/// memory.
 #[derive(Drop)]
 pub struct MemorySink {
+    alloc: Global,
     written: Vec<u8>,
+    puts: Vec<Vec<u8>>,
     failing: Vec<(u64, u64)>,
     calls: u64,
     faults: u64,
@@ -35,6 +64,7 @@ impl Model for MemorySink {
 
     ghost view = { λ s. record {
       written = s.written.items;
+      puts = map (λ put. put.items) s.puts.items;
       failing = s.failing.items;
       calls = s.calls;
       faults = s.faults;
@@ -45,10 +75,13 @@ impl MemorySink {
     /// Nothing is written. Puts are counted from 1. A pair names a put that fails, and how many of its bytes are
     /// appended before that, at most all. Of two pairs for one put the first counts.
     pub fn new(alloc: Global, failing: Vec<(u64, u64)>) -> MemorySink
-        ensures { result ≡ record { written = []; failing = failing.items; calls = 0; faults = 0 } }
+        ensures { result
+            ≡ record { written = []; puts = []; failing = failing.items; calls = 0; faults = 0 } }
     {
         MemorySink {
+            alloc,
             written: Vec::new(alloc),
+            puts: Vec::new(alloc),
             failing,
             calls: 0,
             faults: 0,
@@ -64,14 +97,15 @@ impl MemorySink {
 }
 
 impl Sink for MemorySink {
-    ghost written = { λ sink. Some sink.written };
+    ghost written = { λ sink. sink_view (Some sink.written) (Some sink.puts) };
 
     ghost faults = { λ sink. sink.faults };
 
     fn put(&mut self, bytes: &[u8]) -> Put
         ensures state { self.new ≡ after_put self.old bytes.now result }
-        ensures told { IsPutEffectIfKnown bytes.now (Some self.old.written)
-            (Some self.new.written) result }
+        ensures told { IsPutEffect bytes.now
+            (sink_view (Some self.old.written) (Some self.old.puts))
+            (sink_view (Some self.new.written) (Some self.new.puts)) result }
         ensures done { result ≡ Put.Done →
             failed_len_at self.old.failing (next_count self.old.calls) ≡ None }
         ensures failed { result ≡ Put.Failed →
@@ -79,13 +113,15 @@ impl Sink for MemorySink {
     {
         self.calls = self.calls.saturating_add(1);
         match find_cut(&self.failing, self.calls) {
-            None => match self.written.extend_from_slice(bytes) {
-                Ok(()) => Put::Done,
-                Err(_) => Put::OutOfMemory,
-            },
+            None => {
+                match keep_put(self.alloc, &mut self.puts, &mut self.written, bytes, bytes) {
+                    Ok(()) => Put::Done,
+                    Err(_) => Put::OutOfMemory,
+                }
+            }
             Some(count) => {
                 let part = front(bytes, count);
-                match self.written.extend_from_slice(part) {
+                match keep_put(self.alloc, &mut self.puts, &mut self.written, bytes, part) {
                     Ok(()) => {
                         self.faults = self.faults.saturating_add(1);
                         Put::Failed
@@ -97,47 +133,60 @@ impl Sink for MemorySink {
     }
 }
 
-/// Keeps the bytes in memory. No put fails.
+/// Keeps the bytes, and those of each put, in memory. No put fails.
 #[derive(Drop)]
 pub struct SureSink {
+    alloc: Global,
     written: Vec<u8>,
+    puts: Vec<Vec<u8>>,
 }
 
 impl Model for SureSink {
-    ghost Value = { List ℕ };
+    ghost Value = { SureSinkState };
 
-    ghost view = { λ s. s.written.items };
+    ghost view = { λ s. record {
+      written = s.written.items;
+      puts = map (λ put. put.items) s.puts.items;
+    } };
 }
 
 impl SureSink {
     /// Nothing is written.
     pub fn new(alloc: Global) -> SureSink
-        ensures { result ≡ [] }
+        ensures { result ≡ record { written = []; puts = [] } }
     {
         SureSink {
+            alloc,
             written: Vec::new(alloc),
+            puts: Vec::new(alloc),
         }
     }
 
     /// The bytes that were appended so far.
     pub fn written(&self) -> &[u8]
-        ensures { result.now ≡ self.now }
+        ensures { result.now ≡ self.now.written }
     {
         &self.written
     }
 }
 
 impl Sink for SureSink {
-    ghost written = { λ sink. Some sink };
+    ghost written = { λ sink. sink_view (Some sink.written) (Some sink.puts) };
 
     ghost faults = { λ _. 0 };
 
     fn put(&mut self, bytes: &[u8]) -> Put
+        ensures told { IsPutEffect bytes.now
+            (sink_view (Some self.old.written) (Some self.old.puts))
+            (sink_view (Some self.new.written) (Some self.new.puts)) result }
         ensures sure { result ≢ Put.Failed }
-        ensures done { result ≡ Put.Done → self.new ≡ self.old ++ bytes.now }
+        ensures done { result ≡ Put.Done → self.new ≡ record {
+          written = self.old.written ++ bytes.now;
+          puts = self.old.puts ++ bytes.now ∷ [];
+        } }
         ensures unchanged { result ≡ Put.OutOfMemory → self.new ≡ self.old }
     {
-        match self.written.extend_from_slice(bytes) {
+        match keep_put(self.alloc, &mut self.puts, &mut self.written, bytes, bytes) {
             Ok(()) => Put::Done,
             Err(_) => Put::OutOfMemory,
         }

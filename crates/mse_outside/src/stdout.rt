@@ -2,12 +2,13 @@
 
 ghost use Rattle.std.specs.Prelude.{◌≡◌, ◌≢◌, ℕ, None};
 ghost use Rattle.mse_outside.specs.Folder.{faults_after_put};
+ghost use Rattle.mse_outside.specs.Outside.{sink_view};
 
 use crate::{Put, Sink};
 use std::io::{self, ErrorKind, Write};
 use std::marker::Model;
 
-/// Standard output. It tells no bytes. Contracts see the number of puts that have failed.
+/// Standard output. It tells no bytes and no puts. Contracts see the number of puts that have failed.
 ///
 /// Each put writes all of its bytes and flushes. A write that takes nothing is a failure.
 #[derive(Drop)]
@@ -51,7 +52,7 @@ fn write_whole<R: Print>(rt: &R, bytes: &[u8]) -> bool {
 }
 
 impl<R: Print + Drop> Sink for StdoutSink<R> {
-    ghost written = { λ _. None };
+    ghost written = { λ _. sink_view None None };
 
     ghost faults = { λ sink. sink };
 

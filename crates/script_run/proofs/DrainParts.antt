@@ -13,6 +13,7 @@ use Rattle.mse_engine.specs.Run.{after_entries, fire_meaning}
 use Rattle.mse_engine.specs.Work.{after_element_turn, is_turn_due, running_in, without_first}
 use Rattle.mse_engine.proofs.Transitions.{goes_none, goes_then}
 use Rattle.call_script.specs.declared.script.StepLine.TheVariants.{Fire, Drain}
+use Rattle.mse_outside.specs.Outside.{SinkView}
 use Rattle.script_run.specs.declared.stop.Stop.{Stop}
 use Rattle.script_run.specs.DrainSteps.{AreInDrainOrder, IsAtRest, IsQuiet, HasNoEvent, element_step, work_step}
 use Rattle.script_run.specs.Progress.{IsCalm, HasFewerTurns}
@@ -64,7 +65,7 @@ drain_of blobs a b p rest = ran_as blobs (AreInDrainOrder blobs) (λ st part. Is
 
 -- ---- a step of work, and a turn
 
-pub work_ran : (blobs : List (List ℕ)) (does : EntryRelation) (k : ℕ) (a b : RunView) (t : Option (List ℕ)) (n : List (List Note)) → ((st : State) → Stands a.engine st → does st (Work k ∷ []))
+pub work_ran : (blobs : List (List ℕ)) (does : EntryRelation) (k : ℕ) (a b : RunView) (t : SinkView) (n : List (List Note)) → ((st : State) → Stands a.engine st → does st (Work k ∷ []))
     → IsOwnStep blobs (Work k ∷ []) a b → IsPlayedInLine blobs does (run_at a t n) (run_at b t n)
 work_ran blobs does k a b t n holds p = record {
   played = record {
@@ -77,7 +78,7 @@ work_ran blobs does k a b t n holds p = record {
   left = omega (arith, p.left);
 }
 
-pub turn_ran : (blobs : List (List ℕ)) (does : EntryRelation) (a b : RunView) (t : Option (List ℕ)) (n : List (List Note)) → ((st : State) → Stands a.engine st → does st (Element ∷ []))
+pub turn_ran : (blobs : List (List ℕ)) (does : EntryRelation) (a b : RunView) (t : SinkView) (n : List (List Note)) → ((st : State) → Stands a.engine st → does st (Element ∷ []))
     → IsOwnStep blobs (Element ∷ []) a b → IsPlayedInLine blobs does (run_at a t n) (run_at b t n)
 turn_ran blobs does a b t n holds p = record {
   played = record {
@@ -96,7 +97,7 @@ pub did_work : (blobs : List (List ℕ)) (k : ℕ) (worked : Bool) (a b : RunVie
 did_work blobs k true a b s runs p = refl
 did_work blobs k false a b s runs p = absurd (running_works s.state k (runs s.state s.stands) (p.1 s.state s.stands))
 
-pub working_ran : (blobs : List (List ℕ)) (k : ℕ) (worked : Bool) (a b : RunView) (t : Option (List ℕ)) (n : List (List Note)) → IsStanding a.engine
+pub working_ran : (blobs : List (List ℕ)) (k : ℕ) (worked : Bool) (a b : RunView) (t : SinkView) (n : List (List Note)) → IsStanding a.engine
     → ((st : State) → Stands a.engine st → HasNoEvent st) → ((st : State) → Stands a.engine st → running_in st ≡ Some k)
     → IsOwnStepIf blobs (work_step k) a b worked → IsPlayedInLine blobs (AreInDrainOrder blobs) (run_at a t n) (run_at b t n)
 working_ran blobs k true a b t n s empty runs p = work_ran blobs (AreInDrainOrder blobs) k a b t n (λ st h. ((empty st h, runs st h), tt)) p
@@ -108,7 +109,7 @@ pub did_turn : (blobs : List (List ℕ)) (turned : Bool) (a b : RunView) → IsS
 did_turn blobs true a b s due p = refl
 did_turn blobs false a b s due p = absurd (due_turns s.state (due s.state s.stands) (p.1 s.state s.stands))
 
-pub turning_ran : (blobs : List (List ℕ)) (turned : Bool) (a b : RunView) (t : Option (List ℕ)) (n : List (List Note)) → IsStanding a.engine
+pub turning_ran : (blobs : List (List ℕ)) (turned : Bool) (a b : RunView) (t : SinkView) (n : List (List Note)) → IsStanding a.engine
     → ((st : State) → Stands a.engine st → IsQuiet st) → ((st : State) → Stands a.engine st → is_turn_due st ≡ true)
     → IsOwnStepIf blobs element_step a b turned → IsPlayedInLine blobs (AreInDrainOrder blobs) (run_at a t n) (run_at b t n)
 turning_ran blobs true a b t n s quiet due p = turn_ran blobs (AreInDrainOrder blobs) a b t n (λ st h. ((quiet st h, due st h), tt)) p

@@ -1,9 +1,6 @@
 -- An event that is fired and told to the listeners.
-use Rattle.std.proofs.Common.{◌≡◌, ◌<◌, ◌≤◌, ◌+◌, ℕ, cond, suc, List, [], ◌∷◌, ◌++◌, length, refl, sym, ◌∙◌, ap, append_assoc, arith, inl, inr, drop}
+use Rattle.std.proofs.Common.{◌≡◌, ◌<◌, ◌≤◌, ◌+◌, ℕ, suc, List, [], ◌∷◌, ◌++◌, length, refl, sym, ◌∙◌, ap, append_assoc, arith, subst, inl, inr, drop}
 use Rattle.std.specs.Prelude.{Option, Some, None, Result, Ok, Err, option_map, slice_get}
-use Rattle.std.proofs.lemmas.Bool.{eq-eqb}
-use Rattle.std.proofs.lemmas.List.Sums.{sum_by-cons}
-use Rattle.std.proofs.lemmas.Bool.Decides.{eqb_tells}
 use Rattle.mse_calls.specs.declared.answers.Answer.{Answer}
 use Rattle.mse_calls.specs.declared.calls.Call.{Call}
 use Rattle.std.proofs.lemmas.List.{append-nil}
@@ -14,9 +11,10 @@ use Rattle.mse_calls.specs.declared.entry.Entry.TheVariants.{Step, Script, Liste
 use Rattle.listeners.specs.declared.listener.Note.{Note}
 use Rattle.listeners.specs.declared.event_dispatch.DispatchFault.{DispatchFault}
 use Rattle.listeners.specs.declared.event_dispatch.DispatchFault.TheVariants as fault
-use Rattle.listeners.specs.Notes.{call_count, event_notes, is_call_of}
+use Rattle.listeners.specs.Notes.{call_count, event_notes}
 use Rattle.listeners.specs.Dispatch.{AreCallsInTurn, IsDispatch, notes_at}
 use Rattle.listeners.specs.Views.{RunView, dispatch_view}
+use Rattle.mse_outside.specs.Outside.{SinkView}
 use Rattle.mse_engine.specs.State.{State}
 use Rattle.mse_engine.specs.Run.{entry_meaning, fire_entries}
 use Rattle.mse_engine.specs.Standing.{KeptEngine, Stands}
@@ -34,12 +32,14 @@ use Rattle.script_run.specs.PlayedParts.{IsDispatchCut, HasGrown, IsHeardUpTo, I
 use Rattle.script_run.specs.RunStates.{run_at}
 use Rattle.script_run.specs.NoteHistory.{IsAllHeard, note_history, entries_until_event}
 use Rattle.script_run.specs.Text.{lines_of}
-use Rattle.script_run.specs.Turns.{AreInTurn, CallsLeft, HasCallsLeft, calls_in}
+use Rattle.script_run.specs.Turns.{AreAnswersToEvent, AreCallsBehindEach, AreCallsInPlace, AreInTurn, CallsLeft, HasCallsLeft, calls_in, calls_in_front}
 use Rattle.script_run.specs.Writes.{IsWritten, IsFrontWritten}
+use Rattle.script_run.proofs.CallsInPlace.{in_turn}
 use Rattle.script_run.proofs.RunSteps.{fired_one}
 use Rattle.script_run.proofs.JournalNotes.{heard_none}
 use Rattle.script_run.proofs.PutLines.{front_none}
 use Rattle.script_run.proofs.CutDispatches.{cut_of, heard_to_all, heard_to_limit}
+use Rattle.script_run.proofs.PartsInRow.{last_alone}
 
 -- entries that are calls of listeners
 calls_own : (low high : ℕ) (es : List Entry) → AreCallsInTurn low high es → own_of es ≡ []
@@ -78,45 +78,31 @@ calls_number low high (Fired e ∷ es) h = absurd h
 calls_number low high (Work k ∷ es) h = absurd h
 calls_number low high (Element ∷ es) h = absurd h
 
-call_number : ℕ → Entry → ℕ
-call_number w x = cond (is_call_of w x) 1 0
+-- all of them stand in front
+calls_front : (low high : ℕ) (es : List Entry) → AreCallsInTurn low high es → calls_in_front es ≡ es
+calls_front low high [] h = refl
+calls_front low high (Listener v c a ∷ es) h = ap (λ (x : List Entry). Listener v c a ∷ x) (calls_front v high es h.2)
+calls_front low high (Step n ∷ es) h = absurd h
+calls_front low high (Script c a ∷ es) h = absurd h
+calls_front low high (Fired e ∷ es) h = absurd h
+calls_front low high (Work k ∷ es) h = absurd h
+calls_front low high (Element ∷ es) h = absurd h
 
-count_more : (w : ℕ) (x : Entry) (es : List Entry) → call_count w (x ∷ es) ≡ call_number w x + call_count w es
-unfolding call_number
-count_more w x es = sum_by-cons (λ y. cond (is_call_of w y) 1 0) x es
+-- and nothing stands behind them
+calls_behind : (low high count : ℕ) (es : List Entry) → AreCallsInTurn low high es → AreCallsBehindEach count es
+calls_behind low high count [] h = tt
+calls_behind low high count (Listener v c a ∷ es) h = (tt, calls_behind v high count es h.2)
+calls_behind low high count (Step n ∷ es) h = absurd h
+calls_behind low high count (Script c a ∷ es) h = absurd h
+calls_behind low high count (Fired e ∷ es) h = absurd h
+calls_behind low high count (Work k ∷ es) h = absurd h
+calls_behind low high count (Element ∷ es) h = absurd h
 
-count_tail : (w : ℕ) (x : Entry) (es : List Entry) → call_count w es ≤ call_count w (x ∷ es)
-count_tail w x es = omega (arith, count_more w x es)
-
-call_here : (v low : ℕ) (c : Call) (a : Answer) → v ≡ low → call_number low (Listener v c a) ≡ 1
-unfolding call_number
-call_here v low c a e = rw (eq-eqb v low e) refl
-
-count_here : (v low : ℕ) (c : Call) (a : Answer) (es : List Entry) → v ≡ low → call_count low (Listener v c a ∷ es) ≡ 1 + call_count low es
-count_here v low c a es e = omega (arith, count_more low (Listener v c a) es, call_here v low c a e)
-
--- their turns, of which each has at most 1000
-turns_of_calls : (count made low : ℕ) (es : List Entry) → AreCallsInTurn low count es → made + call_count low es ≤ 1000 → ((w : ℕ) → call_count w es ≤ 1000)
-    → AreInTurn count (Some (record { listener = low; made = made })) es
-turns_of_calls count made low [] h few each = tt
-turns_of_calls count made low (Listener v c a ∷ es) h few each =
-    let tail : (w : ℕ) → call_count w es ≤ 1000 = λ w. omega (arith, count_tail w (Listener v c a) es, each w) in
-    elim (eqb_tells low v) [
-      | inl t ↦
-          let here : call_count low (Listener v c a ∷ es) ≡ 1 + call_count low es = count_here v low c a es (sym t.1) in
-          let room : suc made + call_count v es ≤ 1000 = rw (← t.1) (omega (arith, few, here)) in
-          let less : made < 1000 = omega (arith, few, here) in
-          (h.1, inr (t.1, less), rw t.0 (turns_of_calls count (suc made) v es h.2 room tail))
-      | inr t ↦
-          let room : 1 + call_count v es ≤ 1000 = omega (arith, each v, count_here v v c a es refl) in
-          let behind : low < v = omega (arith, h.0, t.1) in
-          (h.1, inl behind, rw t.0 (turns_of_calls count 1 v es h.2 room tail))
-    ]
-turns_of_calls count made low (Step n ∷ es) h few each = absurd h
-turns_of_calls count made low (Script c a ∷ es) h few each = absurd h
-turns_of_calls count made low (Fired e ∷ es) h few each = absurd h
-turns_of_calls count made low (Work k ∷ es) h few each = absurd h
-turns_of_calls count made low (Element ∷ es) h few each = absurd h
+event_answered : (event : Event) (count : ℕ) (es : List Entry) → AreCallsInTurn 0 count es → ((w : ℕ) → call_count w es ≤ 1000) → AreCallsInPlace count (Fired event ∷ es)
+event_answered event count es order few = record {
+  first = refl;
+  behind = (subst (λ (x : List Entry). AreAnswersToEvent count x) (sym (calls_front 0 count es order)) (record { order = order; few = few }), calls_behind 0 count count es order);
+}
 
 -- what comes of an event and of the calls behind it
 fired_grew : (event : Event) (j0 j1 j2 es : List Entry) → j1 ≡ j0 ++ Fired event ∷ [] → j2 ≡ j1 ++ es → j2 ≡ j0 ++ Fired event ∷ es
@@ -147,7 +133,7 @@ fired_left blobs event a b c n0 n1 result step d =
 
 fired_turns : (blobs : List (List ℕ)) (event : Event) (b c : RunView) (n0 n1 : List (List Note)) (result : Result (Unit {0}) DispatchFault)
     → (d : IsDispatch blobs event (dispatch_view b n0) (dispatch_view c n1) result) → AreInTurn (length n0) None (Fired event ∷ d.entries)
-fired_turns blobs event b c n0 n1 result d = turns_of_calls (length n0) 0 0 d.entries d.in_turn (omega (arith, d.few 0)) d.few
+fired_turns blobs event b c n0 n1 result d = in_turn (length n0) (Fired event ∷ d.entries) (event_answered event (length n0) d.entries d.in_turn d.few)
 
 fired_lines : (event : Event) (j0 j1 j2 es : List Entry) → j1 ≡ j0 ++ Fired event ∷ [] → j2 ≡ j1 ++ es → drop (length j0) j2 ≡ Fired event ∷ es
 fired_lines event j0 j1 j2 es p q = rw (fired_grew event j0 j1 j2 es p q) (drop-append_seam j0 (Fired event ∷ es))
@@ -164,7 +150,7 @@ heard_at blobs event b c n0 n1 d same =
           (rw (until, calls_story 0 (length n0) d.entries w d.in_turn) (sym (append-nil (event_notes event w d.entries))));
     }
 
-pub fired_ran : (blobs : List (List ℕ)) (event : Event) (a b c : RunView) (t0 t1 : Option (List ℕ)) (n0 n1 : List (List Note))
+pub fired_ran : (blobs : List (List ℕ)) (event : Event) (a b c : RunView) (t0 t1 : SinkView) (n0 n1 : List (List Note))
     → IsOwnStep blobs (Fired event ∷ []) a b → IsDispatch blobs event (dispatch_view b n0) (dispatch_view c n1) (Ok tt) → length n1 ≡ length n0
     → IsWritten (lines_of (drop (length a.entries) c.entries)) t0 t1 → IsPlayedInLine blobs (λ st part. IsLineEntries blobs st Fire part) (run_at a t0 n0) (run_at c t1 n1)
 fired_ran blobs event a b c t0 t1 n0 n1 step d same wrote =
@@ -203,8 +189,11 @@ heard_to blobs event h a b c n0 n1 (Ok u) not step d same = heard_to_all (HasCal
 heard_to blobs event h a b c n0 n1 (Err f) not step d same =
     heard_to_limit (HasCallsLeft a.left) (stop_of f) h (Fired event ∷ d.entries) n0 n1 (fired_over blobs event f a b c n0 n1 (λ e. not (ap Err e)) step d same)
 
+one_event : (event : Event) (high : ℕ) (es : List Entry) → AreCallsInTurn 0 high es → own_of (Fired event ∷ es) ≡ Fired event ∷ []
+one_event event high es calls = ap (λ (x : List Entry). Fired event ∷ x) (calls_own 0 high es calls)
+
 -- the lines were not all written
-pub fired_half : (blobs : List (List ℕ)) (event : Event) (h : Halt) (a b c : RunView) (t0 t1 : Option (List ℕ)) (n0 n1 : List (List Note)) (result : Result (Unit {0}) DispatchFault)
+pub fired_half : (blobs : List (List ℕ)) (event : Event) (h : Halt) (a b c : RunView) (t0 t1 : SinkView) (n0 n1 : List (List Note)) (result : Result (Unit {0}) DispatchFault)
     → ¬ (result ≡ Err fault.OutOfMemory) → IsOwnStep blobs (Fired event ∷ []) a b
     → IsDispatch blobs event (dispatch_view b n0) (dispatch_view c n1) result → length n1 ≡ length n0
     → IsFrontWritten (lines_of (drop (length a.entries) c.entries)) t0 t1 → IsPlayedInLineUpTo blobs (λ st part. IsLineFront blobs st Fire part) (Halted h) (run_at a t0 n0) (run_at c t1 n1)
@@ -215,13 +204,13 @@ fired_half blobs event h a b c t0 t1 n0 n1 result not step d same wrote =
         entries = Fired event ∷ d.entries;
         grew = fired_entries blobs (λ st part. IsLineFront blobs st Fire part) event a b c n0 n1 result (λ st part p. inr p) step d;
         turns = fired_turns blobs event b c n0 n1 result d;
-        stopped = (rw lines at wrote, heard_to blobs event h a b c n0 n1 result not step d same);
+        stopped = (last_alone (Fired event ∷ d.entries) t0 t1 (one_event event (length n0) d.entries d.in_turn) (rw lines at wrote), heard_to blobs event h a b c n0 n1 result not step d same);
       };
       left = fired_left blobs event a b c n0 n1 result step d;
     }
 
 -- memory was wanting in the dispatch, and none of its lines was written
-pub fired_short : (blobs : List (List ℕ)) (event : Event) (a b c : RunView) (t : Option (List ℕ)) (n0 n1 : List (List Note))
+pub fired_short : (blobs : List (List ℕ)) (event : Event) (a b c : RunView) (t : SinkView) (n0 n1 : List (List Note))
     → IsOwnStep blobs (Fired event ∷ []) a b → IsDispatch blobs event (dispatch_view b n0) (dispatch_view c n1) (Err fault.OutOfMemory)
     → length n1 ≡ length n0 → IsPlayedInLineUpTo blobs (λ st part. IsLineFront blobs st Fire part) (Halted halt.Memory) (run_at a t n0) (run_at c t n1)
 fired_short blobs event a b c t n0 n1 step d same = record {
@@ -229,19 +218,19 @@ fired_short blobs event a b c t n0 n1 step d same = record {
     entries = Fired event ∷ d.entries;
     grew = fired_entries blobs (λ st part. IsLineFront blobs st Fire part) event a b c n0 n1 (Err fault.OutOfMemory) (λ st part p. inr p) step d;
     turns = fired_turns blobs event b c n0 n1 (Err fault.OutOfMemory) d;
-    stopped = (front_none t (lines_of (Fired event ∷ d.entries)), inr (inl (cut_at blobs event a b c n0 n1 fault.OutOfMemory step d same)));
+    stopped = (last_alone (Fired event ∷ d.entries) t t (one_event event (length n0) d.entries d.in_turn) (front_none t (lines_of (Fired event ∷ d.entries))), inr (inl (cut_at blobs event a b c n0 n1 fault.OutOfMemory step d same)));
   };
   left = fired_left blobs event a b c n0 n1 (Err fault.OutOfMemory) step d;
 }
 
-stopped_by : (calls_left : CallsLeft) (f : DispatchFault) (es : List Entry) (a c : RunView) (t0 t1 : Option (List ℕ)) (n0 n1 : List (List Note))
+stopped_by : (calls_left : CallsLeft) (f : DispatchFault) (es : List Entry) (a c : RunView) (t0 t1 : SinkView) (n0 n1 : List (List Note))
     → IsWritten (lines_of es) t0 t1 → IsOverLimit calls_left (stop_of f) es n0 n1 → IsStoppedBy calls_left (stop_of f) es (run_at a t0 n0) (run_at c t1 n1)
 stopped_by calls_left fault.OutOfMemory es a c t0 t1 n0 n1 wrote over = absurd over
 stopped_by calls_left (fault.CallBudget k) es a c t0 t1 n0 n1 wrote over = (wrote, over)
 stopped_by calls_left fault.TaskBudget es a c t0 t1 n0 n1 wrote over = (wrote, over)
 
 -- a limit ended the dispatch
-pub fired_stopped : (blobs : List (List ℕ)) (event : Event) (f : DispatchFault) (a b c : RunView) (t0 t1 : Option (List ℕ)) (n0 n1 : List (List Note))
+pub fired_stopped : (blobs : List (List ℕ)) (event : Event) (f : DispatchFault) (a b c : RunView) (t0 t1 : SinkView) (n0 n1 : List (List Note))
     → ¬ (f ≡ fault.OutOfMemory) → IsOwnStep blobs (Fired event ∷ []) a b
     → IsDispatch blobs event (dispatch_view b n0) (dispatch_view c n1) (Err f) → length n1 ≡ length n0
     → IsWritten (lines_of (drop (length a.entries) c.entries)) t0 t1

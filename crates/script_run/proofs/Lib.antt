@@ -1,9 +1,12 @@
 pub mod PutLines
+pub mod TextLines
 pub mod ListenerTurns
+pub mod CallsInPlace
 pub mod JournalNotes
 pub mod CutDispatches
 pub mod PartsInRow
 pub mod FollowedLines
+pub mod LineFronts
 pub mod RunSteps
 pub mod FiredEvents
 pub mod WorkLeft

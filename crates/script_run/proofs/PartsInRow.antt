@@ -1,10 +1,10 @@
 -- Parts of a run, one after another.
-use Rattle.std.proofs.Common.{◌≡◌, ◌+◌, ℕ, List, [], ◌++◌, length, sym, ◌∙◌, ap, append_assoc, arith, inl, inr}
-use Rattle.std.specs.Prelude.{Option, None}
+use Rattle.std.proofs.Common.{◌≡◌, ◌+◌, ℕ, List, [], ◌++◌, length, refl, sym, ◌∙◌, ap, append_assoc, arith, inl, inr}
+use Rattle.std.specs.Prelude.{None}
 use Rattle.std.proofs.lemmas.List.{append-nil}
 use Rattle.std.proofs.lemmas.List.Concat.{flat_map-append}
 use Rattle.mse_calls.specs.declared.entry.Entry.{Entry}
-use Rattle.event_text.specs.Lines.{line_text}
+use Rattle.mse_outside.specs.Outside.{SinkView}
 use Rattle.listeners.specs.declared.listener.Note.{Note}
 use Rattle.mse_engine.specs.State.{State}
 use Rattle.mse_engine.specs.Standing.{Stands}
@@ -17,13 +17,13 @@ use Rattle.script_run.specs.declared.stop.Stop.{Stop}
 use Rattle.script_run.specs.declared.stop.Stop.TheVariants.{Halted, CallBudget, TaskBudget}
 use Rattle.listeners.specs.Views.{RunView}
 use Rattle.script_run.specs.RunParts.{EntryRelation}
-use Rattle.script_run.specs.PlayedParts.{HasGrown, IsPlayed, IsPlayedUpTo, IsPlayedInLine, IsPlayedInLineUpTo, IsStoppedBy, IsHeardUpTo, part_front}
+use Rattle.script_run.specs.PlayedParts.{HasGrown, IsPlayed, IsPlayedUpTo, IsPlayedInLine, IsPlayedInLineUpTo, IsStoppedBy, IsHeardUpTo, IsOneStepAtMost, IsWrittenToLastStep, part_front}
 use Rattle.script_run.specs.RunStates.{RunState}
 use Rattle.script_run.specs.NoteHistory.{IsAllHeard}
-use Rattle.script_run.specs.Text.{lines_of}
+use Rattle.script_run.specs.Text.{lines_of, lines_of_entry}
 use Rattle.script_run.specs.Turns.{AreInTurn, CallsLeft, HasCallsLeft, calls_in}
-use Rattle.script_run.specs.Writes.{IsWritten, IsFrontWritten}
-use Rattle.script_run.proofs.PutLines.{wrote_none, wrote_more, front_more, front_none}
+use Rattle.script_run.specs.Writes.{IsFrontWritten, IsWritten}
+use Rattle.script_run.proofs.PutLines.{behind_more, front_none, wrote_more, wrote_none}
 use Rattle.script_run.proofs.ListenerTurns.{turns_then, calls_in-append}
 use Rattle.script_run.proofs.JournalNotes.{heard_none, heard_then, cut_then}
 use Rattle.script_run.proofs.CutDispatches.{heard_to_all, over_then}
@@ -40,11 +40,28 @@ grew_then blobs one two both a b c xs ys joins p q = record {
   holds = λ st h. joins st xs ys (p.holds st h) (q.holds (after_entries blobs st xs) (p.goes.stands st h));
 }
 
-lines_then : (xs ys : List Entry) (t0 t1 t2 : Option (List ℕ)) → IsWritten (lines_of xs) t0 t1 → IsWritten (lines_of ys) t1 t2 → IsWritten (lines_of (xs ++ ys)) t0 t2
-lines_then xs ys t0 t1 t2 p q = rw (flat_map-append line_text xs ys) (wrote_more (lines_of xs) (lines_of ys) t0 t1 t2 p q)
+lines_then : (xs ys : List Entry) (t0 t1 t2 : SinkView) → IsWritten (lines_of xs) t0 t1 → IsWritten (lines_of ys) t1 t2 → IsWritten (lines_of (xs ++ ys)) t0 t2
+lines_then xs ys t0 t1 t2 p q = rw (flat_map-append lines_of_entry xs ys) (wrote_more (lines_of xs) (lines_of ys) t0 t1 t2 p q)
 
-lines_then_front : (xs ys : List Entry) (t0 t1 t2 : Option (List ℕ)) → IsWritten (lines_of xs) t0 t1 → IsFrontWritten (lines_of ys) t1 t2 → IsFrontWritten (lines_of (xs ++ ys)) t0 t2
-lines_then_front xs ys t0 t1 t2 p q = rw (flat_map-append line_text xs ys) (front_more (lines_of xs) (lines_of ys) t0 t1 t2 p q)
+-- what is ahead of the written lines behind another part
+pub last_then : (xs ys : List Entry) (t0 t1 t2 : SinkView) → IsWritten (lines_of xs) t0 t1 → IsWrittenToLastStep ys t1 t2 → IsWrittenToLastStep (xs ++ ys) t0 t2
+last_then xs ys t0 t1 t2 p q = record {
+  before = xs ++ q.before;
+  last = q.last;
+  entries_are = ap (λ (x : List Entry). xs ++ x) q.entries_are ∙ sym (append_assoc xs q.before q.last);
+  one_step = q.one_step;
+  wrote = rw (flat_map-append lines_of_entry xs q.before) (behind_more (lines_of xs) (lines_of q.before) (lines_of q.last) t0 t1 t2 p q.wrote);
+}
+
+-- of one thing that was done a front was written
+pub last_alone : (last : List Entry) (t0 t1 : SinkView) → IsOneStepAtMost last → IsFrontWritten (lines_of last) t0 t1 → IsWrittenToLastStep last t0 t1
+last_alone last t0 t1 one p = record {
+  before = [];
+  last = last;
+  entries_are = refl;
+  one_step = one;
+  wrote = record { middle = t0; wrote = wrote_none t0; front = p };
+}
 
 pub played_then : (blobs : List (List ℕ)) (one two both : EntryRelation) (a b c : RunState) → ArePartsInRow blobs one two both → IsPlayed blobs one a b → IsPlayed blobs two b c → IsPlayed blobs both a c
 played_then blobs one two both a b c joins p q = record {
@@ -68,7 +85,7 @@ pub stopped_then : (part whole : CallsLeft) (stop : Stop) (count : ℕ) (xs ys :
     → IsWritten (lines_of xs) a.written b.written → IsAllHeard xs a.notes b.notes → AreInTurn count None ys → IsStoppedBy part stop ys b c
     → IsStoppedBy whole stop (xs ++ ys) a c
 stopped_then part whole (Halted h) count xs ys a b c more w p turns s = (
-  lines_then_front xs ys a.written b.written c.written w s.0,
+  last_then xs ys a.written b.written c.written w s.0,
   heard_to_then part whole h count xs ys a.notes b.notes c.notes more p turns s.1,
 )
 stopped_then part whole (CallBudget k) count xs ys a b c more w p turns s = (
@@ -131,7 +148,7 @@ played_none blobs calls_left begins h a holds = record {
   entries = [];
   grew = grew_none blobs begins a.run holds;
   turns = tt;
-  stopped = (front_none a.written [], heard_to_all calls_left h [] a.notes a.notes (heard_none a.notes));
+  stopped = (last_alone [] a.written a.written tt (front_none a.written []), heard_to_all calls_left h [] a.notes a.notes (heard_none a.notes));
 }
 
 pub halt_none : (blobs : List (List ℕ)) (begins : EntryRelation) (h : Halt) (a : RunState) → ((st : State) → Stands a.run.engine st → begins st []) → IsPlayedInLineUpTo blobs begins (Halted h) a a

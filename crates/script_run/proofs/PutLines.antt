@@ -1,53 +1,166 @@
 -- What a sink was given, by several puts.
-use Rattle.std.proofs.Common.{◌≡◌, ◌∙◌, ◌+◌, ℕ, zero, suc, List, [], ◌∷◌, ◌++◌, drop, append_assoc, ap, subst, sym, refl, add-one}
-use Rattle.std.specs.Prelude.{Option, Some, None, slice_get}
+use Rattle.std.proofs.Common.{◌≡◌, ◌∙◌, ◌+◌, ◌⊎◌, ℕ, zero, suc, List, [], ◌∷◌, ◌++◌, drop, append_assoc, ap, subst, sym, refl, add-one, inl, inr}
+use Rattle.std.specs.Prelude.{IfSome, IsSomeAnd, Option, Some, None, OnErr, OnOk, slice_get}
+use Rattle.std.specs.List.{concat, flat_map}
 use Rattle.std.proofs.lemmas.List.{append-nil}
 use Rattle.mse_calls.specs.declared.entry.Entry.{Entry}
 use Rattle.event_text.specs.Lines.{line_text}
-use Rattle.script_run.specs.Text.{lines_of}
-use Rattle.script_run.specs.Writes.{IsWritten, IsFrontWritten}
+use Rattle.mse_outside.specs.Outside.{HasFrontAppended, IfTold, IsPutAppended, IsPutEffect, IsPutListed, SinkView}
+use Rattle.mse_outside.specs.declared.sink.Put.{Put}
+use Rattle.mse_outside.specs.declared.sink.Put.TheVariants.{Done, Failed, OutOfMemory}
+use Rattle.script_run.specs.Text.{line_if_any, lines_of, lines_of_entry}
+use Rattle.script_run.specs.Writes.{IsFirstTried, IsFrontWritten, IsFrontWrittenBehind, IsPutTried, IsWritten, halt_of}
 
--- one put after another
-pub wrote_more : (a b : List ℕ) (old mid new : Option (List ℕ)) → IsWritten a old mid → IsWritten b mid new → IsWritten (a ++ b) old new
-wrote_more a b None mid new u v = tt
-wrote_more a b (Some xs) None new u v = absurd cc
-wrote_more a b (Some xs) (Some ys) new u v =
+concat-append : (a b : List (List ℕ)) → concat (a ++ b) ≡ concat a ++ concat b
+concat-append [] b = refl
+concat-append (x ∷ a) b = ap (λ (t : List ℕ). x ++ t) (concat-append a b) ∙ sym (append_assoc x (concat a) (concat b))
+
+-- ---- what is told
+
+-- it grew by one list, and then by another
+told_more : {X : Type 0} (a b : List X) (old mid new : Option (List X)) → IfSome old (λ before. mid ≡ Some (before ++ a)) → IfSome mid (λ before. new ≡ Some (before ++ b))
+    → IfSome old (λ before. new ≡ Some (before ++ (a ++ b)))
+told_more a b None mid new u v = tt
+told_more a b (Some xs) None new u v = absurd cc
+told_more a b (Some xs) (Some ys) new u v =
     let first : ys ≡ xs ++ a = cc in
-    v ∙ ap Some (ap (λ (zs : List ℕ). zs ++ b) first ∙ append_assoc xs a b)
+    v ∙ ap Some (ap (λ zs. zs ++ b) first ∙ append_assoc xs a b)
 
--- a put that was not done after others
-pub front_more : (a b : List ℕ) (old mid new : Option (List ℕ)) → IsWritten a old mid → IsFrontWritten b mid new → IsFrontWritten (a ++ b) old new
-front_more a b old mid new u v =
-    (a ++ v.0, v.1, ap (λ (zs : List ℕ). a ++ zs) v.2 ∙ sym (append_assoc a v.0 v.1), wrote_more a v.0 old mid new u v.3)
+-- by nothing
+told_none : {X : Type 0} (told : Option (List X)) → IfSome told (λ before. told ≡ Some (before ++ []))
+told_none None = tt
+told_none (Some xs) = ap Some (sym (append-nil xs))
 
--- and before others
-pub front_first : (a b : List ℕ) (old new : Option (List ℕ)) → IsFrontWritten a old new → IsFrontWritten (a ++ b) old new
-front_first a b old new v = (v.0, v.1 ++ b, ap (λ (zs : List ℕ). zs ++ b) v.2 ∙ append_assoc v.0 v.1 b, v.3)
+-- ---- one put
 
--- one more line was put
-pub line_put : (front text rest line more : List ℕ) (old mid new : Option (List ℕ)) → rest ≡ line ++ more
-    → IsWritten front old mid → front ++ rest ≡ text → IsWritten line mid new → (x : List ℕ) × IsWritten x old new × (x ++ more ≡ text)
-line_put front text rest line more old mid new parts w all v =
-    (front ++ line, wrote_more front line old mid new w v, append_assoc front line more ∙ ap (λ (xs : List ℕ). front ++ xs) (sym parts) ∙ all)
+done_bytes : (bytes : List ℕ) (old new : Option (List ℕ)) → IfTold old new (λ before now. IsPutAppended bytes before now Done) → IfSome old (λ before. new ≡ Some (before ++ (bytes ++ [])))
+done_bytes bytes None new h = tt
+done_bytes bytes (Some xs) None h = absurd h
+done_bytes bytes (Some xs) (Some ys) h = ap Some (h ∙ ap (λ (zs : List ℕ). xs ++ zs) (sym (append-nil bytes)))
 
--- a line was not put
-pub line_failed : (front text rest line more : List ℕ) (old mid new : Option (List ℕ)) → rest ≡ line ++ more
-    → IsWritten front old mid → front ++ rest ≡ text → IsFrontWritten line mid new → IsFrontWritten text old new
-line_failed front text rest line more old mid new parts w all v =
-    let whole : front ++ (line ++ more) ≡ text = ap (λ (xs : List ℕ). front ++ xs) (sym parts) ∙ all in
-    subst (λ (t : List ℕ). IsFrontWritten t old new) whole (front_more front (line ++ more) old mid new w (front_first line more mid new v))
+done_put : (bytes : List ℕ) (old new : Option (List (List ℕ))) → IfTold old new (λ before now. IsPutListed bytes before now Done) → IfSome old (λ before. new ≡ Some (before ++ bytes ∷ []))
+done_put bytes None new h = tt
+done_put bytes (Some xs) None h = absurd h
+done_put bytes (Some xs) (Some ys) h = ap Some h
+
+-- it was done
+put_done : (bytes : List ℕ) (old new : SinkView) → IsPutEffect bytes old new Done → IsWritten (bytes ∷ []) old new
+put_done bytes old new h = record { bytes = done_bytes bytes old.bytes new.bytes h.appended; puts = done_put bytes old.puts new.puts h.listed }
+
+pub put_ok : (bytes : List ℕ) (old new : SinkView) (answer : Put) → IsPutEffect bytes old new answer → OnOk (halt_of answer) (IsWritten (bytes ∷ []) old new)
+put_ok bytes old new Done h = put_done bytes old new h
+put_ok bytes old new Failed h = tt
+put_ok bytes old new OutOfMemory h = tt
+
+failed_put : (bytes : List ℕ) (old new : Option (List (List ℕ))) → IfTold old new (λ before now. IsPutListed bytes before now Failed) → IfTold old new (λ before now. (now ≡ before) ⊎ (now ≡ before ++ bytes ∷ []))
+failed_put bytes None new h = tt
+failed_put bytes (Some xs) None h = absurd h
+failed_put bytes (Some xs) (Some ys) h = inr h
+
+short_put : (bytes : List ℕ) (old new : Option (List (List ℕ))) → IfTold old new (λ before now. IsPutListed bytes before now OutOfMemory) → IfTold old new (λ before now. (now ≡ before) ⊎ (now ≡ before ++ bytes ∷ []))
+short_put bytes None new h = tt
+short_put bytes (Some xs) None h = absurd h
+short_put bytes (Some xs) (Some ys) (inl h) = inr h
+short_put bytes (Some xs) (Some ys) (inr h) = inl h
 
 -- nothing was put
-pub wrote_none : (told : Option (List ℕ)) → IsWritten [] told told
-wrote_none None = tt
-wrote_none (Some bytes) = ap (λ (b : List ℕ). Some b) (sym (append-nil bytes))
+pub wrote_none : (told : SinkView) → IsWritten [] told told
+wrote_none told = record { bytes = told_none told.bytes; puts = told_none told.puts }
 
-pub front_none : (told : Option (List ℕ)) (text : List ℕ) → IsFrontWritten text told told
-front_none told text = ([], text, refl, wrote_none told)
+-- it was not done
+tried_front : (bytes : List ℕ) (old new : SinkView) → IsPutTried bytes old new → IsFrontWritten (bytes ∷ []) old new
+tried_front bytes old new h = record { whole = []; rest = bytes ∷ []; lines_are = refl; middle = old; wrote = wrote_none old; tried = h }
+
+pub put_err : (bytes : List ℕ) (old new : SinkView) (answer : Put) → IsPutEffect bytes old new answer → OnErr (halt_of answer) (IsFrontWritten (bytes ∷ []) old new)
+put_err bytes old new Done h = tt
+put_err bytes old new Failed h = tried_front bytes old new (record { front = h.appended; put = failed_put bytes old.puts new.puts h.listed })
+put_err bytes old new OutOfMemory h = tried_front bytes old new (record { front = h.appended; put = short_put bytes old.puts new.puts h.listed })
+
+-- ---- several puts
+
+-- one put after another
+pub wrote_more : (a b : List (List ℕ)) (old mid new : SinkView) → IsWritten a old mid → IsWritten b mid new → IsWritten (a ++ b) old new
+wrote_more a b old mid new u v = record {
+  bytes = rw (concat-append a b) (told_more (concat a) (concat b) old.bytes mid.bytes new.bytes u.bytes v.bytes);
+  puts = told_more a b old.puts mid.puts new.puts u.puts v.puts;
+}
+
+-- a put that was not done after others
+pub front_more : (a b : List (List ℕ)) (old mid new : SinkView) → IsWritten a old mid → IsFrontWritten b mid new → IsFrontWritten (a ++ b) old new
+front_more a b old mid new u v = record {
+  whole = a ++ v.whole;
+  rest = v.rest;
+  lines_are = ap (λ (zs : List (List ℕ)). a ++ zs) v.lines_are ∙ sym (append_assoc a v.whole v.rest);
+  middle = v.middle;
+  wrote = wrote_more a v.whole old mid v.middle u v.wrote;
+  tried = v.tried;
+}
+
+told_front : (bytes : List ℕ) (told : Option (List ℕ)) → IfTold told told (λ before now. HasFrontAppended bytes before now)
+told_front bytes None = tt
+told_front bytes (Some xs) = ([], bytes, refl, sym (append-nil xs))
+
+told_puts : (bytes : List ℕ) (told : Option (List (List ℕ))) → IfTold told told (λ before now. (now ≡ before) ⊎ (now ≡ before ++ bytes ∷ []))
+told_puts bytes None = tt
+told_puts bytes (Some xs) = inl refl
+
+-- no put was tried
+none_tried : (lines : List (List ℕ)) (told : SinkView) → IsFirstTried lines told told
+none_tried [] told = refl
+none_tried (line ∷ lines) told = record { front = told_front line told.bytes; put = told_puts line told.puts }
+
+first_tried : (a b : List (List ℕ)) (old new : SinkView) → IsFirstTried a old new → IsFirstTried (a ++ b) old new
+first_tried [] b old new h = subst (λ (t : SinkView). IsFirstTried b old t) (sym h) (none_tried b old)
+first_tried (line ∷ a) b old new h = h
+
+-- and before others
+pub front_first : (a b : List (List ℕ)) (old new : SinkView) → IsFrontWritten a old new → IsFrontWritten (a ++ b) old new
+front_first a b old new v = record {
+  whole = v.whole;
+  rest = v.rest ++ b;
+  lines_are = ap (λ (zs : List (List ℕ)). zs ++ b) v.lines_are ∙ append_assoc v.whole v.rest b;
+  middle = v.middle;
+  wrote = v.wrote;
+  tried = first_tried v.rest b v.middle new v.tried;
+}
+
+-- nothing was put
+pub front_none : (told : SinkView) (lines : List (List ℕ)) → IsFrontWritten lines told told
+front_none told lines = record { whole = []; rest = lines; lines_are = refl; middle = told; wrote = wrote_none told; tried = none_tried lines told }
 
 -- all of it is a front of it
-pub front_whole : (text : List ℕ) (old new : Option (List ℕ)) → IsWritten text old new → IsFrontWritten text old new
-front_whole text old new w = (text, [], sym (append-nil text), w)
+pub front_whole : (lines : List (List ℕ)) (old new : SinkView) → IsWritten lines old new → IsFrontWritten lines old new
+front_whole lines old new w = record { whole = lines; rest = []; lines_are = sym (append-nil lines); middle = new; wrote = w; tried = refl }
+
+-- ---- behind others
+
+-- all of the first were put before
+pub behind_more : (a b c : List (List ℕ)) (old mid new : SinkView) → IsWritten a old mid → IsFrontWrittenBehind b c mid new → IsFrontWrittenBehind (a ++ b) c old new
+behind_more a b c old mid new u v = record { middle = v.middle; wrote = wrote_more a b old mid v.middle u v.wrote; front = v.front }
+
+-- it is a front of all
+pub behind_front : (a b : List (List ℕ)) (old new : SinkView) → IsFrontWrittenBehind a b old new → IsFrontWritten (a ++ b) old new
+behind_front a b old new v = front_more a b old v.middle new v.wrote v.front
+
+-- ---- the lines of a text
+
+-- one more line was put
+pub line_put : (front text rest more : List (List ℕ)) (line : List ℕ) (old mid new : SinkView) → rest ≡ line ∷ more
+    → IsWritten front old mid → front ++ rest ≡ text → IsWritten (line ∷ []) mid new → (x : List (List ℕ)) × IsWritten x old new × (x ++ more ≡ text)
+line_put front text rest more line old mid new parts w all v = (
+  front ++ line ∷ [],
+  wrote_more front (line ∷ []) old mid new w v,
+  append_assoc front (line ∷ []) more ∙ ap (λ (xs : List (List ℕ)). front ++ xs) (sym parts) ∙ all,
+)
+
+-- a line was not put
+pub line_failed : (front text rest more : List (List ℕ)) (line : List ℕ) (old mid new : SinkView) → rest ≡ line ∷ more
+    → IsWritten front old mid → front ++ rest ≡ text → IsFrontWritten (line ∷ []) mid new → IsFrontWritten text old new
+line_failed front text rest more line old mid new parts w all v =
+    let whole : front ++ (line ∷ more) ≡ text = ap (λ (xs : List (List ℕ)). front ++ xs) (sym parts) ∙ all in
+    subst (λ (t : List (List ℕ)). IsFrontWritten t old new) whole (front_more front (line ∷ more) old mid new w (front_first (line ∷ []) more mid new v))
+
+-- ---- the lines of entries
 
 -- the entry at a place stands before the rest
 drop_suc : {X : Type 0} (xs : List X) (i : ℕ) (x : X) → slice_get xs i ≡ Some x → drop i xs ≡ x ∷ drop (suc i) xs
@@ -59,19 +172,29 @@ pub drop_entry : {X : Type 0} (xs : List X) (i : ℕ) (x : X) → slice_get xs i
 drop_entry xs i x e = rw add-one (drop_suc xs i x e)
 
 -- the line of one more entry was put
-pub entry_put : (es : List Entry) (i : ℕ) (entry : Entry) (all : List ℕ) (t0 t1 t2 : Option (List ℕ)) → Some entry ≡ slice_get es i
-    → ((front : List ℕ) × IsWritten front t0 t1 × (all ≡ front ++ lines_of (drop i es))) → IsWritten (line_text entry) t1 t2
-    → (front : List ℕ) × IsWritten front t0 t2 × (all ≡ front ++ lines_of (drop (i + 1) es))
+pub entry_put : (es : List Entry) (i : ℕ) (entry : Entry) (all : List (List ℕ)) (t0 t1 t2 : SinkView) → Some entry ≡ slice_get es i
+    → ((front : List (List ℕ)) × IsWritten front t0 t1 × (all ≡ front ++ lines_of (drop i es))) → IsWritten (lines_of_entry entry) t1 t2
+    → (front : List (List ℕ)) × IsWritten front t0 t2 × (all ≡ front ++ lines_of (drop (i + 1) es))
 entry_put es i entry all t0 t1 t2 is w p = (
-  w.0 ++ line_text entry,
-  wrote_more w.0 (line_text entry) t0 t1 t2 w.1 p,
-  w.2 ∙ ap (λ (x : List Entry). w.0 ++ lines_of x) (drop_entry es i entry (sym is)) ∙ sym (append_assoc w.0 (line_text entry) (lines_of (drop (i + 1) es))),
+  w.0 ++ lines_of_entry entry,
+  wrote_more w.0 (lines_of_entry entry) t0 t1 t2 w.1 p,
+  w.2 ∙ ap (λ (x : List Entry). w.0 ++ lines_of x) (drop_entry es i entry (sym is)) ∙ sym (append_assoc w.0 (lines_of_entry entry) (lines_of (drop (i + 1) es))),
 )
 
 -- it was not put
-pub entry_failed : (es : List Entry) (i : ℕ) (entry : Entry) (all : List ℕ) (t0 t1 t2 : Option (List ℕ)) → Some entry ≡ slice_get es i
-    → ((front : List ℕ) × IsWritten front t0 t1 × (all ≡ front ++ lines_of (drop i es))) → IsFrontWritten (line_text entry) t1 t2 → IsFrontWritten all t0 t2
+pub entry_failed : (es : List Entry) (i : ℕ) (entry : Entry) (all : List (List ℕ)) (t0 t1 t2 : SinkView) → Some entry ≡ slice_get es i
+    → ((front : List (List ℕ)) × IsWritten front t0 t1 × (all ≡ front ++ lines_of (drop i es))) → IsFrontWritten (lines_of_entry entry) t1 t2 → IsFrontWritten all t0 t2
 entry_failed es i entry all t0 t1 t2 is w p =
-    let tail : List ℕ = lines_of (drop (i + 1) es) in
-    let whole : all ≡ w.0 ++ (line_text entry ++ tail) = w.2 ∙ ap (λ (x : List Entry). w.0 ++ lines_of x) (drop_entry es i entry (sym is)) in
-    subst (λ (t : List ℕ). IsFrontWritten t t0 t2) (sym whole) (front_more w.0 (line_text entry ++ tail) t0 t1 t2 w.1 (front_first (line_text entry) tail t1 t2 p))
+    let tail : List (List ℕ) = lines_of (drop (i + 1) es) in
+    let whole : all ≡ w.0 ++ (lines_of_entry entry ++ tail) = w.2 ∙ ap (λ (x : List Entry). w.0 ++ lines_of x) (drop_entry es i entry (sym is)) in
+    subst (λ (t : List (List ℕ)). IsFrontWritten t t0 t2) (sym whole) (front_more w.0 (lines_of_entry entry ++ tail) t0 t1 t2 w.1 (front_first (lines_of_entry entry) tail t1 t2 p))
+
+-- one behind the other they are the texts of the entries
+concat-line : (text : List ℕ) → concat (line_if_any text) ≡ text
+concat-line [] = refl
+concat-line (c ∷ text) = append-nil (c ∷ text)
+
+pub concat-entries : (es : List Entry) → concat (lines_of es) ≡ flat_map line_text es
+concat-entries [] = refl
+concat-entries (entry ∷ es) =
+    concat-append (lines_of_entry entry) (lines_of es) ∙ ap (λ (t : List ℕ). t ++ concat (lines_of es)) (concat-line (line_text entry)) ∙ ap (λ (t : List ℕ). line_text entry ++ t) (concat-entries es)

@@ -4,6 +4,7 @@ pub mod DrainSteps
 pub mod Turns
 pub mod Lines
 pub mod Follows
+pub mod Fronts
 pub mod NoteHistory
 pub mod RunStates
 pub mod RunParts

@@ -1,5 +1,5 @@
 -- What a line of a script brings about (docs/SCRIPTS.md, call lines and step lines).
-use Rattle.std.specs.Prelude.{◌≡◌, ◌⊎◌, ◌≤◌, ℕ, List, [], ◌∷◌, None}
+use Rattle.std.specs.Prelude.{◌≡◌, ◌⊎◌, ◌≤◌, ℕ, List, [], ◌∷◌}
 use Rattle.mse_calls.specs.declared.entry.Entry.{Entry}
 use Rattle.mse_calls.specs.declared.entry.Entry.TheVariants as entry
 use Rattle.call_script.specs.declared.script.StepLine.{StepLine}
@@ -9,7 +9,7 @@ use Rattle.mse_engine.specs.Calls.{after_call}
 use Rattle.mse_engine.specs.Work.{after_element_turn, after_work, fire_result}
 use Rattle.mse_engine.specs.Run.{fire_entries, entries_if}
 use Rattle.script_run.specs.DrainSteps.{AreInDrainOrder, IsDrain}
-use Rattle.script_run.specs.Turns.{AreInTurn, calls_in}
+use Rattle.script_run.specs.Turns.{AreCallsInPlace, calls_in}
 
 -- the entries but for the calls of listeners
 abbrev pub own_of : List Entry → List Entry
@@ -57,4 +57,4 @@ play_inputs blobs limits = record { blobs = blobs; limits = limits }
 
 pub record IsWithin (limits : Limits) (part : List Entry) : Type 0 where
   pub few : calls_in part ≤ limits.limit
-  pub turns : AreInTurn limits.count None part
+  pub calls : AreCallsInPlace limits.count part

@@ -1,5 +1,5 @@
 -- A part of a run.
-use Rattle.std.specs.Prelude.{◌≡◌, ◌⊎◌, ℕ, ◌+◌, Bool, true, false, List, [], ◌∷◌, ◌++◌, length, Option, Some, None, Result, Ok, Err}
+use Rattle.std.specs.Prelude.{◌≡◌, ◌⊎◌, ℕ, ◌+◌, Bool, true, false, List, [], ◌∷◌, ◌++◌, length, Option, Some, None, Result, Ok, Err, ⊤}
 use Rattle.mse_calls.specs.declared.answers.Answer.{Answer}
 use Rattle.mse_calls.specs.declared.calls.Call.{Call}
 use Rattle.mse_calls.specs.declared.events.Event.{Event}
@@ -10,6 +10,7 @@ use Rattle.listeners.specs.declared.event_dispatch.DispatchFault.{DispatchFault}
 use Rattle.listeners.specs.declared.event_dispatch.DispatchFault.TheVariants as fault
 use Rattle.listeners.specs.Dispatch.{AreCallsInTurn, IsFailedDispatch, dispatch_end}
 use Rattle.listeners.specs.Views.{RunView}
+use Rattle.mse_outside.specs.Outside.{SinkView}
 use Rattle.event_text.specs.Lines.{line_text}
 use Rattle.mse_engine.specs.State.{State}
 use Rattle.mse_engine.specs.Standing.{Stands}
@@ -21,10 +22,11 @@ use Rattle.script_run.specs.declared.stop.Stop.TheVariants.{Halted, CallBudget, 
 use Rattle.script_run.specs.RunParts.{RunPart, EntryRelation}
 use Rattle.script_run.specs.DrainSteps.{AreInDrainOrder, MachineStep, HasNoEvent}
 use Rattle.script_run.specs.RunStates.{PrintedRun, RunState}
+use Rattle.script_run.specs.Lines.{own_of}
 use Rattle.script_run.specs.NoteHistory.{IsAllHeard}
 use Rattle.script_run.specs.Text.{lines_of}
 use Rattle.script_run.specs.Turns.{AreInTurn, CallsLeft, HasCallsLeft, calls_in}
-use Rattle.script_run.specs.Writes.{IsWritten, IsFrontWritten}
+use Rattle.script_run.specs.Writes.{IsWritten, IsFrontWritten, IsFrontWrittenBehind}
 
 -- entries came, which the engine went by, and no listener called
 pub record IsOwnStep (blobs : List (List ℕ)) (entries : List Entry)
@@ -111,10 +113,24 @@ IsHeardUpTo calls_left halt.Memory entries old new =
 IsHeardUpTo calls_left halt.Write entries old new =
     IsAllHeard entries old new ⊎ ((stop : Stop) × IsOverLimit calls_left stop entries old new)
 
+-- one thing that was done at most, with the calls by which listeners answered it
+abbrev pub IsOneStepAtMost : List Entry → Type 0
+IsOneStepAtMost [] = ⊤
+IsOneStepAtMost (entry ∷ calls) = own_of (entry ∷ calls) ≡ entry ∷ []
+
+-- How far the entries are ahead of what was written: all their lines were written, but that of those of the last thing that
+-- was done only a front may have been.
+pub record IsWrittenToLastStep (entries : List Entry) (old new : SinkView) : Type 0 where
+  pub before : List Entry
+  pub last : List Entry
+  pub entries_are : entries ≡ before ++ last
+  pub one_step : IsOneStepAtMost last
+  pub wrote : IsFrontWrittenBehind (lines_of before) (lines_of last) old new
+
 -- what was written and heard where a part stopped so
 abbrev pub IsStoppedBy : CallsLeft → Stop → List Entry → RunState → RunState → Type 0
 IsStoppedBy calls_left (Halted halt) entries old new =
-    IsFrontWritten (lines_of entries) old.written new.written
+    IsWrittenToLastStep entries old.written new.written
     × IsHeardUpTo calls_left halt entries old.notes new.notes
 IsStoppedBy calls_left stop entries old new =
     IsWritten (lines_of entries) old.written new.written
@@ -158,14 +174,14 @@ IsPlayedInLineBy course old new (Err stop) =
 pub record IsCallMade (blobs : List (List ℕ)) (call : Call) (old new : PrintedRun) : Type 0 where
   pub answer : Answer
   pub stepped : IsOwnStep blobs (Script call answer ∷ []) old.run new.run
-  pub wrote : IsWritten (line_text (Script call answer)) old.written new.written
+  pub wrote : IsWritten (line_text (Script call answer) ∷ []) old.written new.written
 
 -- a front of its line was written
 pub record IsCallHalfWritten (blobs : List (List ℕ)) (call : Call)
     (old new : PrintedRun) : Type 0 where
   pub answer : Answer
   pub stepped : IsOwnStep blobs (Script call answer ∷ []) old.run new.run
-  pub wrote : IsFrontWritten (line_text (Script call answer)) old.written new.written
+  pub wrote : IsFrontWritten (line_text (Script call answer) ∷ []) old.written new.written
 
 -- it was not made, or a front of its line was written
 abbrev pub IsCallHalted : List (List ℕ) → Call → PrintedRun → PrintedRun → Type 0

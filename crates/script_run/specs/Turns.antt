@@ -1,42 +1,48 @@
 -- When listeners call (docs/SCRIPTS.md, rules).
-use Rattle.std.specs.Prelude.{◌≡◌, ◌⊎◌, ◌<◌, ◌+◌, ℕ, suc, ◌==◌, List, [], ◌∷◌, ◌++◌, Option, Some, None, if◌then◌else◌, ⊤}
+use Rattle.std.specs.Prelude.{◌≡◌, ◌⊎◌, ◌<◌, ◌≤◌, ◌+◌, ℕ, suc, ◌==◌, List, [], ◌∷◌, ◌++◌, Option, Some, None, if◌then◌else◌, ⊤}
 use Rattle.mse_calls.specs.declared.entry.Entry.{Entry}
 use Rattle.mse_calls.specs.declared.entry.Entry.TheVariants.{Step, Script, Listener, Fired, Work, Element}
-
--- the listener whose turn it is to call after an event, and how many calls it has made
-pub record ListenerTurn : Type 0 where
-  pub listener : ℕ
-  pub made : ℕ
-
--- listener 0 hears an event first
-abbrev pub first_turn : ListenerTurn
-first_turn = record { listener = 0; made = 0 }
+use Rattle.listeners.specs.Dispatch.{AreCallsInTurn}
+use Rattle.listeners.specs.Notes.{call_count}
 
 -- a listener makes at most so many calls for one event
 abbrev pub most_calls : ℕ
 most_calls = 1000
 
--- it may call: it is its turn and it has a call left, or it comes behind the one whose turn it was
-abbrev pub IsTurnToCall : ListenerTurn → ℕ → Type 0
-IsTurnToCall turn w = (turn.listener < w) ⊎ ((turn.listener ≡ w) × (turn.made < most_calls))
+-- the calls of listeners with which entries begin
+abbrev pub calls_in_front : List Entry → List Entry
+calls_in_front [] = []
+calls_in_front (Listener w call answer ∷ entries) =
+    Listener w call answer ∷ calls_in_front entries
+calls_in_front (Fired event ∷ entries) = []
+calls_in_front (Step n ∷ entries) = []
+calls_in_front (Script call answer ∷ entries) = []
+calls_in_front (Work k ∷ entries) = []
+calls_in_front (Element ∷ entries) = []
 
-abbrev pub turn_after : ListenerTurn → ℕ → ListenerTurn
-turn_after turn w =
-    if turn.listener == w then record { listener = w; made = suc turn.made }
-    else record { listener = w; made = 1 }
+-- By these calls `count` listeners answered one event: their numbers do not fall, and of each there are at most 1000.
+pub record AreAnswersToEvent (count : ℕ) (calls : List Entry) : Type 0 where
+  pub order : AreCallsInTurn 0 count calls
+  pub few : (w : ℕ) → call_count w calls ≤ most_calls
 
--- Listeners call only behind an event, in order of their numbers, at most 1000 times each; there
--- are `count` of them. Without a turn no event was fired since the last thing that was done.
-abbrev pub AreInTurn : ℕ → Option ListenerTurn → List Entry → Type 0
-AreInTurn count turn [] = ⊤
-AreInTurn count turn (Fired event ∷ entries) = AreInTurn count (Some first_turn) entries
-AreInTurn count None (Listener w call answer ∷ entries) = ⊥
-AreInTurn count (Some turn) (Listener w call answer ∷ entries) =
-    (w < count) × IsTurnToCall turn w × AreInTurn count (Some (turn_after turn w)) entries
-AreInTurn count turn (Script call answer ∷ entries) = AreInTurn count None entries
-AreInTurn count turn (Step n ∷ entries) = AreInTurn count None entries
-AreInTurn count turn (Work k ∷ entries) = AreInTurn count None entries
-AreInTurn count turn (Element ∷ entries) = AreInTurn count None entries
+-- the calls that stand behind an entry: listeners answer an event, and call behind nothing else
+abbrev pub AreCallsBehind : ℕ → Entry → List Entry → Type 0
+AreCallsBehind count (Fired event) calls = AreAnswersToEvent count calls
+AreCallsBehind count (Listener w call answer) calls = ⊤
+AreCallsBehind count (Step n) calls = calls ≡ []
+AreCallsBehind count (Script call answer) calls = calls ≡ []
+AreCallsBehind count (Work k) calls = calls ≡ []
+AreCallsBehind count Element calls = calls ≡ []
+
+abbrev pub AreCallsBehindEach : ℕ → List Entry → Type 0
+AreCallsBehindEach count [] = ⊤
+AreCallsBehindEach count (entry ∷ entries) =
+    AreCallsBehind count entry (calls_in_front entries) × AreCallsBehindEach count entries
+
+-- Listeners call only behind an event, in order of their numbers, at most 1000 times each; there are `count` of them.
+pub record AreCallsInPlace (count : ℕ) (entries : List Entry) : Type 0 where
+  pub first : calls_in_front entries ≡ []
+  pub behind : AreCallsBehindEach count entries
 
 -- how many calls listeners made
 abbrev pub calls_in : List Entry → ℕ
@@ -74,3 +80,35 @@ pub record HasCallsLeftInLine (limit : ℕ) (entries : List Entry) (left : ℕ) 
   pub entries_are : entries ≡ front ++ Step number ∷ part
   pub one_line : steps_in part ≡ 0
   pub calls : HasCallsLeft limit part left
+
+-- ---- calls of listeners turn by turn, as `IsPlayed` has them
+
+-- the listener whose turn it is to call after an event, and how many calls it has made
+pub record ListenerTurn : Type 0 where
+  pub listener : ℕ
+  pub made : ℕ
+
+-- listener 0 hears an event first
+abbrev pub first_turn : ListenerTurn
+first_turn = record { listener = 0; made = 0 }
+
+-- it may call: it is its turn and it has a call left, or it comes behind the one whose turn it was
+abbrev pub IsTurnToCall : ListenerTurn → ℕ → Type 0
+IsTurnToCall turn w = (turn.listener < w) ⊎ ((turn.listener ≡ w) × (turn.made < most_calls))
+
+abbrev pub turn_after : ListenerTurn → ℕ → ListenerTurn
+turn_after turn w =
+    if turn.listener == w then record { listener = w; made = suc turn.made }
+    else record { listener = w; made = 1 }
+
+-- Each call comes in its turn. Without a turn no event was fired since the last thing that was done.
+abbrev pub AreInTurn : ℕ → Option ListenerTurn → List Entry → Type 0
+AreInTurn count turn [] = ⊤
+AreInTurn count turn (Fired event ∷ entries) = AreInTurn count (Some first_turn) entries
+AreInTurn count None (Listener w call answer ∷ entries) = ⊥
+AreInTurn count (Some turn) (Listener w call answer ∷ entries) =
+    (w < count) × IsTurnToCall turn w × AreInTurn count (Some (turn_after turn w)) entries
+AreInTurn count turn (Script call answer ∷ entries) = AreInTurn count None entries
+AreInTurn count turn (Step n ∷ entries) = AreInTurn count None entries
+AreInTurn count turn (Work k ∷ entries) = AreInTurn count None entries
+AreInTurn count turn (Element ∷ entries) = AreInTurn count None entries

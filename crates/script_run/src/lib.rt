@@ -4,11 +4,12 @@
 //! It stands on `mse_engine` (the engine), `listeners` (who hears the events), `call_script` (the
 //! lines of a script), `event_text` (the printed lines) and `mse_outside` (the sink). Its main
 //! contract is that of [`ScriptRun::play`]: the journal grew by entries that the engine goes by and
-//! that follow the script line by line, their lines were written, and each listener heard, made and
-//! was told what they say (`specs/Follows.antt`, `specs/PlayedParts.antt`).
+//! that follow the script line by line, their lines were written, each with one put, and each listener
+//! heard, made and was told what they say (`specs/Follows.antt`, `specs/PlayedParts.antt`).
 #![tactic(auto)]
 
 mod drain;
+pub mod laws;
 mod lines;
 mod listening;
 mod put;

@@ -60,7 +60,7 @@ fn give_to(listener: &mut Box<dyn Listener>, list: Vec<Rule>)
 }
 
 /// Gives each listener the rules of its number, in their order. Rules of other numbers go. Each
-/// listener stays at its place, and answers as before.
+/// listener stays at its place, and keeps its way.
 ///
 /// An `Err` is want of memory; then listeners in front may have their rules already, and those
 /// behind have the rules that they had.

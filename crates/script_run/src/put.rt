@@ -1,10 +1,9 @@
 //! Lines for the sink.
 
-ghost use Rattle.std.specs.Prelude.{◌≡◌, ◌≤◌, [], length, drop, unwrap_or, IfOk, OnOk, OnErr, IsErrOf};
+ghost use Rattle.std.specs.Prelude.{◌≡◌, ◌≤◌, [], ◌∷◌, length, drop, option_to_list, IfOk, OnOk, OnErr, IsErrOf};
 ghost use Rattle.mse_outside.specs.Outside.{HasRisen};
-ghost use Rattle.event_text.specs.Lines.{line_text};
 ghost use Rattle.run_journal.specs.EntryRef.{entry_of};
-ghost use Rattle.script_run.specs.Text.{lines_of};
+ghost use Rattle.script_run.specs.Text.{lines_in, lines_of, lines_of_entry};
 ghost use Rattle.script_run.specs.Writes.{IsWritten, IsFrontWritten, halt_of};
 
 use crate::stop::Halt;
@@ -26,11 +25,12 @@ fn halt_of(answer: Put) -> Result<(), Halt>
     }
 }
 
-/// Puts bytes. After an `Err` a front part of them was written: `Write` where the sink counted a
-/// failure, and `Memory` where it found none.
+/// Puts bytes, with one put. After an `Err` a front part of them was written: `Write` where the sink
+/// counted a failure, and `Memory` where it found none.
 pub fn put_bytes<K: Sink>(sink: &mut K, bytes: &[u8]) -> Result<(), Halt>
-    ensures ok { OnOk result (IsWritten bytes.now (K.written sink.old) (K.written sink.new)) }
-    ensures err { OnErr result (IsFrontWritten bytes.now (K.written sink.old)
+    ensures ok { OnOk result (IsWritten (bytes.now ∷ []) (K.written sink.old)
+        (K.written sink.new)) }
+    ensures err { OnErr result (IsFrontWritten (bytes.now ∷ []) (K.written sink.old)
         (K.written sink.new)) }
     ensures no_fewer_faults { K.faults sink.old ≤ K.faults sink.new }
     ensures cause { IsErrOf result Halt.Write → HasRisen (K.faults sink.old) (K.faults sink.new) }
@@ -42,8 +42,10 @@ pub fn put_bytes<K: Sink>(sink: &mut K, bytes: &[u8]) -> Result<(), Halt>
 /// Puts a text line by line: each put is one whole line with its line feed. An `Err` is as of
 /// [`put_bytes`].
 pub fn put_lines<K: Sink>(sink: &mut K, text: &str) -> Result<(), Halt>
-    ensures ok { OnOk result (IsWritten text.now (K.written sink.old) (K.written sink.new)) }
-    ensures err { OnErr result (IsFrontWritten text.now (K.written sink.old) (K.written sink.new)) }
+    ensures ok { OnOk result (IsWritten (lines_in text.now) (K.written sink.old)
+        (K.written sink.new)) }
+    ensures err { OnErr result (IsFrontWritten (lines_in text.now) (K.written sink.old)
+        (K.written sink.new)) }
     ensures no_fewer_faults { K.faults sink.old ≤ K.faults sink.new }
     ensures cause { IsErrOf result Halt.Write → HasRisen (K.faults sink.old) (K.faults sink.new) }
     ensures failures_told { ¬ IsErrOf result Halt.Write → K.faults sink.new ≡ K.faults sink.old }
@@ -59,7 +61,7 @@ pub fn put_lines<K: Sink>(sink: &mut K, text: &str) -> Result<(), Halt>
 
 /// The line of an entry; `None` for an entry that prints nothing.
 fn entry_line(alloc: Global, entry: &EntryRef<'_>) -> Result<Option<Text>, OutOfMemory>
-    ensures { IfOk result (λ line. unwrap_or line [] ≡ line_text (entry_of entry.now)) }
+    ensures { IfOk result (λ line. lines_of_entry (entry_of entry.now) ≡ option_to_list line) }
 {
     let line = match *entry {
         EntryRef::Script(call, answer) => script_line(alloc, call, answer)?,
@@ -75,10 +77,10 @@ fn entry_line(alloc: Global, entry: &EntryRef<'_>) -> Result<Option<Text>, OutOf
 
 /// Puts the line of an entry.
 fn put_entry<K: Sink>(alloc: Global, sink: &mut K, entry: &EntryRef<'_>) -> Result<(), Halt>
-    ensures ok { OnOk result (IsWritten (line_text (entry_of entry.now)) (K.written sink.old)
+    ensures ok { OnOk result (IsWritten (lines_of_entry (entry_of entry.now)) (K.written sink.old)
         (K.written sink.new)) }
-    ensures err { OnErr result (IsFrontWritten (line_text (entry_of entry.now)) (K.written sink.old)
-        (K.written sink.new)) }
+    ensures err { OnErr result (IsFrontWritten (lines_of_entry (entry_of entry.now))
+        (K.written sink.old) (K.written sink.new)) }
     ensures no_fewer_faults { K.faults sink.old ≤ K.faults sink.new }
     ensures cause { IsErrOf result Halt.Write → HasRisen (K.faults sink.old) (K.faults sink.new) }
     ensures failures_told { ¬ IsErrOf result Halt.Write → K.faults sink.new ≡ K.faults sink.old }

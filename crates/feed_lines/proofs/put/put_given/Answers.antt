@@ -1,7 +1,7 @@
 use Rattle.std.proofs.Common.{◌∙◌, sym, arith, refl}
 use Rattle.track_store.specs.Frames.{IsTimed}
 use Rattle.track_store.specs.State.{state_of}
-use Rattle.track_store.proofs.Clearing.{each_at}
+use Rattle.track_store.proofs.ClearedLists.{each_at}
 use Rattle.feed_lines.proofs.PutLines.{all_answered, end_failed, frame_failed, given_end, given_put, none_yet, one_more}
 use Rattle.script_run.proofs.GoneThrough.{gone_through}
 use Rattle.feed_lines.proofs.put.put_given.Goals as goal

@@ -7,6 +7,6 @@ abbrev pub invariant-loop-i : goal.invariant-loop-i
 invariant-loop-i g l = record {
   no_fewer_faults : g.K.Sink.faults l.fn.sink ≤ g.K.Sink.faults l.sink;
   same_faults : g.K.Sink.faults l.sink ≡ g.K.Sink.faults l.fn.sink;
-  wrote : (front : List ℕ) × IsWritten front (g.K.Sink.written l.fn.sink) (g.K.Sink.written l.sink)
+  wrote : (front : List (List ℕ)) × IsWritten front (g.K.Sink.written l.fn.sink) (g.K.Sink.written l.sink)
       × (lines_of (drop l.from l.journal.entries) ≡ front ++ lines_of (drop l.i l.journal.entries));
 }

@@ -4,8 +4,11 @@ use Rattle.std.proofs.lemmas.List.{take-append-drop}
 use Rattle.mse_outside.proofs.memory_sink.MemorySinkSink.put.Goals as goal
 
 -- the bytes are what was appended, and the rest
-pub returns-in-Ok-extend_from_slice-clause-told : goal.returns-in-Ok-extend_from_slice-clause-told
-returns-in-Ok-extend_from_slice-clause-told c =
+pub returns-in-Ok-keep_put-clause-told : goal.returns-in-Ok-keep_put-clause-told
+returns-in-Ok-keep_put-clause-told c =
     let count = c.in-Some.count in
     let bytes = c.args.bytes.now in
-    (take count bytes, drop count bytes, sym (take-append-drop count bytes), grind (arith, common_steps))
+    record {
+      appended = (take count bytes, drop count bytes, sym (take-append-drop count bytes), grind (arith, common_steps));
+      listed = grind (arith, common_steps);
+    }
