@@ -1,20 +1,22 @@
 -- Parts of an append that end with the one that brought an error.
-use Rattle.std.proofs.Common.{◌≡◌, ◌≢◌, ℕ, ◌+◌, ◌≤◌, ◌==◌, Bool, true, false, not, ◌||◌, List, [], ◌∷◌, ◌++◌, length, drop, take, refl, ap, sym, subst, ◌∙◌, arith}
+use Rattle.std.proofs.Common.{◌≡◌, ◌≢◌, ℕ, ◌==◌, Bool, true, false, not, ◌||◌, List, [], ◌∷◌, ◌++◌, refl, ap, sym, ◌∙◌, arith}
 use Rattle.std.specs.Prelude.{Option, Some, None, slice_get}
 use Rattle.std.proofs.lemmas.Bool.Decides.{nat_tests}
 use Rattle.mse_calls.specs.Pieces.{bytes_of}
+use Rattle.mse_calls.specs.declared.calls.Call.TheVariants.{AppendBuffer}
 use Rattle.mse_calls.specs.declared.calls.Piece.{Piece}
 use Rattle.buffer_state.specs.State.{is_updating}
 use Rattle.source_buffers.specs.State.{BufferState}
-use Rattle.call_script.specs.declared.script.StepLine.{StepLine}
+use Rattle.call_script.specs.declared.script.StepLine.TheVariants.{Call, Drain}
 use Rattle.mse_engine.specs.State.{CoreSource, Core, State, core_of}
 use Rattle.cut_law.specs.Plays.{play_of}
 use Rattle.cut_law.specs.Room.{IsUnmet}
-use Rattle.cut_law.specs.Cuts.{AreParts, append_lines, part_lines, IsOtherCut, IsAwaited, stopped_lines}
+use Rattle.cut_law.specs.Cuts.{append_lines, bytes_of_pieces, script_with, whole_script, Cut, IsAwaited, IsInParts}
+use Rattle.cut_law.specs.Outcomes.{AreAlike}
 use Rattle.cut_law.proofs.Halves.{half_after_append, half_after_append_by}
 use Rattle.cut_law.proofs.Drains.{core_with_slot, slot_of_half, on_slot, append_core, drain_core, lowest, drain-idle, append-rests}
 use Rattle.cut_law.proofs.Journals.{set-same, append_some, core_play, play-append, play-core, unmet-front}
-use Rattle.cut_law.proofs.AwaitedAppends.{parts-core, whole-core, idle-front}
+use Rattle.cut_law.proofs.AwaitedAppends.{alike, idle-front, play-three, some-of, some-parts-core, whole-core}
 
 -- ---- where there is an error an append is refused
 
@@ -36,10 +38,10 @@ pub some-dead : (x : Option (List ℕ)) (k : ℕ) (c : Core) → (c.source.error
 some-dead None k c d low = drain-idle 0 c.buffers c.source low
 some-dead (Some bytes) k c d low = ap (λ x. drain_core x) (found-dead (slice_get c.buffers k) bytes k c refl d) ∙ drain-idle 0 c.buffers c.source low
 
-dead : (pieces : List Piece) (blobs : List (List ℕ)) (k : ℕ) (c : Core) → (c.source.error == 0) ≡ false → lowest c.buffers ≡ None → core_play blobs c (part_lines k pieces) ≡ c
+dead : (pieces : List Piece) (blobs : List (List ℕ)) (k : ℕ) (c : Core) → (c.source.error == 0) ≡ false → lowest c.buffers ≡ None → core_play blobs c (append_lines k pieces) ≡ c
 dead [] blobs k c d low = refl
 dead (piece ∷ pieces) blobs k c d low =
-    ap (λ x. core_play blobs x (part_lines k pieces)) (some-dead (bytes_of blobs piece) k c d low) ∙ dead pieces blobs k c d low
+    ap (λ x. core_play blobs x (append_lines k pieces)) (some-dead (bytes_of blobs piece) k c d low) ∙ dead pieces blobs k c d low
 
 -- ---- behind parts that were awaited nothing runs
 
@@ -47,45 +49,51 @@ some-rests : (x : Option (List ℕ)) (k : ℕ) (c : Core) → lowest c.buffers �
 some-rests None k c low = ap (λ (d : Core). lowest d.buffers) (drain-idle 0 c.buffers c.source low) ∙ low
 some-rests (Some bytes) k c low = append-rests bytes k c low
 
-parts-rest : (pieces : List Piece) (blobs : List (List ℕ)) (k : ℕ) (c : Core) → lowest c.buffers ≡ None → lowest (core_play blobs c (part_lines k pieces)).buffers ≡ None
+parts-rest : (pieces : List Piece) (blobs : List (List ℕ)) (k : ℕ) (c : Core) → lowest c.buffers ≡ None → lowest (core_play blobs c (append_lines k pieces)).buffers ≡ None
 parts-rest [] blobs k c low = low
 parts-rest (piece ∷ pieces) blobs k c low =
     parts-rest pieces blobs k (drain_core (append_some (bytes_of blobs piece) k c)) (some-rests (bytes_of blobs piece) k c low)
 
 -- ---- the parts up to the one that brought an error come to what the whole comes to
 
-part-lines-append : (xs ys : List Piece) (k : ℕ) → part_lines k (xs ++ ys) ≡ part_lines k xs ++ part_lines k ys
-part-lines-append [] ys k = refl
-part-lines-append (x ∷ xs) ys k = ap (λ lines. append_lines k x ++ lines) (part-lines-append xs ys k)
+lines-append : (xs ys : List Piece) (k : ℕ) → append_lines k (xs ++ ys) ≡ append_lines k xs ++ append_lines k ys
+lines-append [] ys k = refl
+lines-append (x ∷ xs) ys k = ap (λ lines. Call (AppendBuffer k x) ∷ Drain ∷ lines) (lines-append xs ys k)
 
-stopped-core : (xs ys : List Piece) (blobs : List (List ℕ)) (k blob start total : ℕ) (piece : Piece) (bytes : List ℕ) (c : Core) → slice_get blobs blob ≡ Some bytes → AreParts blob bytes start total (piece ∷ (xs ++ ys)) → start + total ≤ length bytes
-    → lowest c.buffers ≡ None → ((core_play blobs c (part_lines k (piece ∷ xs))).source.error == 0) ≡ false
-    → core_play blobs c (part_lines k (piece ∷ xs)) ≡ drain_core (append_core (take total (drop start bytes)) k c)
-stopped-core xs ys blobs k blob start total piece bytes c e p l low broken =
-    let d : Core = core_play blobs c (part_lines k (piece ∷ xs)) in
-    sym (dead ys blobs k d broken (parts-rest (piece ∷ xs) blobs k c low))
-    ∙ sym (play-append blobs c (part_lines k (piece ∷ xs)) (part_lines k ys))
-    ∙ ap (λ lines. core_play blobs c lines) (sym (part-lines-append (piece ∷ xs) ys k))
-    ∙ parts-core (xs ++ ys) blobs k blob start total piece bytes c e p l low
+stopped-core : (xs ys : List Piece) (blobs : List (List ℕ)) (k : ℕ) (bytes : List ℕ) (c : Core) → (xs ++ ys) ≢ [] → bytes_of_pieces blobs (xs ++ ys) ≡ Some bytes
+    → lowest c.buffers ≡ None → ((core_play blobs c (append_lines k xs)).source.error == 0) ≡ false
+    → core_play blobs c (append_lines k xs) ≡ drain_core (append_core bytes k c)
+stopped-core xs ys blobs k bytes c some e low broken =
+    let d : Core = core_play blobs c (append_lines k xs) in
+    sym (dead ys blobs k d broken (parts-rest xs blobs k c low))
+    ∙ sym (play-append blobs c (append_lines k xs) (append_lines k ys))
+    ∙ ap (λ lines. core_play blobs c lines) (sym (lines-append xs ys k))
+    ∙ some-parts-core (xs ++ ys) blobs k bytes c some e low
 
 not-zero : (n : ℕ) → n ≢ 0 → (n == 0) ≡ false
 not-zero n e = grind (arith, nat_tests)
 
-pub stopping : (blobs : List (List ℕ)) (st : State) (s t : List StepLine) (x : IsOtherCut blobs s t) (others left : List Piece) → x.back ≡ [] → x.others ≡ others ++ left → IsAwaited blobs st x.front
-    → IsUnmet blobs st s → IsUnmet blobs st (stopped_lines x others) → (core_of (play_of blobs st (stopped_lines x others))).source.error ≢ 0
-    → core_of (play_of blobs st (stopped_lines x others)) ≡ core_of (play_of blobs st s)
-stopping blobs st s t x others left back parts a us ut broken =
-    let lines : List StepLine = part_lines x.buffer (x.first ∷ others) in
-    let whole : s ≡ x.front ++ append_lines x.buffer x.piece = x.whole ∙ ap (λ zs. x.front ++ (append_lines x.buffer x.piece ++ zs)) back in
-    let front : IsUnmet blobs st x.front = unmet-front blobs st x.front lines ut in
-    let c : Core = core_play blobs (core_of st) x.front in
-    let low : lowest c.buffers ≡ None = idle-front blobs st x.front front a in
-    let few : core_of (play_of blobs st (x.front ++ lines)) ≡ core_play blobs c lines = play-core blobs st (x.front ++ lines) ut ∙ play-append blobs (core_of st) x.front lines in
-    let error : ((core_play blobs c lines).source.error == 0) ≡ false = ap (λ (d : Core). d.source.error == 0) (sym few) ∙ not-zero (core_of (play_of blobs st (x.front ++ lines))).source.error broken in
-    let all : AreParts x.piece.blob x.bytes x.start x.total (x.first ∷ (others ++ left)) = subst (λ ps. AreParts x.piece.blob x.bytes x.start x.total (x.first ∷ ps)) parts x.parts in
-    few
-    ∙ stopped-core others left blobs x.buffer x.piece.blob x.start x.total x.first x.bytes c x.blob all x.inside low error
-    ∙ sym (whole-core blobs x.buffer x.start x.total x.piece x.bytes c x.blob x.extent x.inside)
-    ∙ sym (play-append blobs (core_of st) x.front (append_lines x.buffer x.piece))
-    ∙ ap (λ zs. core_play blobs (core_of st) zs) (sym whole)
-    ∙ sym (play-core blobs st s us)
+-- a script that has nothing behind its append
+nothing-behind : (blobs : List (List ℕ)) (c : Core) (pieces : List Piece) (cut : Cut) → cut.back ≡ [] → core_play blobs c (script_with pieces cut) ≡ core_play blobs (core_play blobs c cut.front) (append_lines cut.buffer pieces)
+nothing-behind blobs c pieces cut back =
+    play-three blobs c cut.front (append_lines cut.buffer pieces) cut.back
+    ∙ ap (λ lines. core_play blobs (core_play blobs (core_play blobs c cut.front) (append_lines cut.buffer pieces)) lines) back
+
+pub stopping : (blobs : List (List ℕ)) (st : State) (cut : Cut) (done left : List Piece) → IsInParts blobs cut.piece cut.parts → cut.back ≡ [] → cut.parts ≡ done ++ left → IsAwaited blobs st cut.front
+    → IsUnmet blobs st (whole_script cut) → IsUnmet blobs st (script_with done cut) → (core_of (play_of blobs st (script_with done cut))).source.error ≢ 0
+    → AreAlike (play_of blobs st (script_with done cut)) (play_of blobs st (whole_script cut))
+stopping blobs st cut done left p back parts a us ut broken =
+    let front : IsUnmet blobs st cut.front = unmet-front blobs st cut.front (append_lines cut.buffer (cut.piece ∷ []) ++ cut.back) us in
+    let c : Core = core_play blobs (core_of st) cut.front in
+    let low : lowest c.buffers ≡ None = idle-front blobs st cut.front front a in
+    let w = some-of (bytes_of blobs cut.piece) p.inside in
+    let few : core_of (play_of blobs st (script_with done cut)) ≡ core_play blobs c (append_lines cut.buffer done) = play-core blobs st (script_with done cut) ut ∙ nothing-behind blobs (core_of st) done cut back in
+    let all : core_of (play_of blobs st (whole_script cut)) ≡ core_play blobs c (append_lines cut.buffer (cut.piece ∷ [])) = play-core blobs st (whole_script cut) us ∙ nothing-behind blobs (core_of st) (cut.piece ∷ []) cut back in
+    let error : ((core_play blobs c (append_lines cut.buffer done)).source.error == 0) ≡ false = ap (λ (d : Core). d.source.error == 0) (sym few) ∙ not-zero (core_of (play_of blobs st (script_with done cut))).source.error broken in
+    let some : (done ++ left) ≢ [] = λ e. p.some (parts ∙ e) in
+    let together : bytes_of_pieces blobs (done ++ left) ≡ Some w.0 = ap (λ ps. bytes_of_pieces blobs ps) (sym parts) ∙ p.together ∙ w.1 in
+    alike (play_of blobs st (script_with done cut)) (play_of blobs st (whole_script cut))
+    (few
+    ∙ stopped-core done left blobs cut.buffer w.0 c some together low error
+    ∙ sym (whole-core blobs cut.buffer cut.piece w.0 c w.1)
+    ∙ sym all)

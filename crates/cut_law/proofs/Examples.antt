@@ -1,6 +1,6 @@
 -- Worked scripts: two ADTS frames, appended at once and in parts.
-use Rattle.std.proofs.Common.{◌≡◌, ℕ, ◌+◌, ◌≤◌, pos, List, [], ◌∷◌, ◌++◌, length, map, refl, ap, sym, ◌∙◌, arith}
-use Rattle.std.specs.Prelude.{Option, Some, None}
+use Rattle.std.proofs.Common.{◌≡◌, ℕ, pos, List, [], ◌∷◌, length, map, refl, ap, sym, ◌∙◌}
+use Rattle.std.specs.Prelude.{Some, None}
 use Rattle.mse_base.specs.Time.{tick}
 use Rattle.mse_base.specs.declared.ticks.Moment.TheVariants.{Nan}
 use Rattle.mse_types.specs.declared.answer.Container.TheVariants.{Adts}
@@ -12,11 +12,12 @@ use Rattle.adts_stream.specs.Headers.{frame_found, id3_length, found_at}
 use Rattle.call_script.specs.declared.script.StepLine.{StepLine}
 use Rattle.call_script.specs.declared.script.StepLine.TheVariants.{Call}
 use Rattle.media_element.specs.State.{new_element}
-use Rattle.source_buffers.specs.State.{BufferState, new_buffer}
-use Rattle.mse_engine.specs.State.{Core, State, core_of}
+use Rattle.source_buffers.specs.State.{new_buffer}
+use Rattle.mse_engine.specs.State.{State}
 use Rattle.cut_law.specs.Plays.{play_of, drain_entries}
 use Rattle.cut_law.specs.Room.{IsUnmet}
-use Rattle.cut_law.specs.Cuts.{append_lines, part_lines, IsOtherCut, IsAwaited}
+use Rattle.cut_law.specs.Cuts.{append_lines, cut_script, whole_script, Cut, IsAwaited, IsInParts}
+use Rattle.cut_law.specs.Outcomes.{outcome_of, BufferOutcome, Outcome}
 
 -- two frames of ten bytes, and bytes that are no frame
 abbrev frames : List ℕ
@@ -26,7 +27,7 @@ abbrev blobs : List (List ℕ)
 blobs = frames ∷ (0 ∷ 0 ∷ 0 ∷ 0 ∷ 0 ∷ 0 ∷ 0 ∷ []) ∷ []
 
 -- an open source with two buffers for ADTS
-abbrev two_buffers : ℕ → State
+abbrev pub two_buffers : ℕ → State
 two_buffers quota = record {
   source = record {
     state = record { ready = Opened; duration = Nan; live = None; made = 2; listed = 0 ∷ 1 ∷ []; active = [] };
@@ -39,15 +40,14 @@ two_buffers quota = record {
 }
 
 -- how many coded frames each track of each buffer holds
-abbrev count_in : Option BufferState → List ℕ
-count_in None = []
-count_in (Some b) = map (λ t. length t.frames) b.content.media.tracks
+abbrev count_in : BufferOutcome → List ℕ
+count_in b = map (λ t. length t.frames) b.tracks
 
-abbrev counts : Core → List (List ℕ)
-counts c = map count_in c.buffers
+abbrev counts : Outcome → List (List ℕ)
+counts o = map count_in o.buffers
 
 abbrev counts_behind : ℕ → List StepLine → List (List ℕ)
-counts_behind quota lines = counts (core_of (play_of blobs (two_buffers quota) lines))
+counts_behind quota lines = counts (outcome_of (play_of blobs (two_buffers quota) lines))
 
 abbrev one_frame : List (List ℕ)
 one_frame = (1 ∷ []) ∷ [] ∷ []
@@ -55,17 +55,21 @@ one_frame = (1 ∷ []) ∷ [] ∷ []
 abbrev two_frames : List (List ℕ)
 two_frames = (2 ∷ []) ∷ [] ∷ []
 
-abbrev whole_lines : List StepLine
-whole_lines = append_lines 0 (record { blob = 0; part = None })
+-- both frames, and a part of them
+abbrev both : Piece
+both = record { blob = 0; part = None }
 
--- a part of the two frames
 abbrev part : ℕ → ℕ → Piece
 part start len = record { blob = 0; part = Some (start, len) }
 
-abbrev halves_lines : List StepLine
-halves_lines = part_lines 0 (part 0 10 ∷ part 10 10 ∷ [])
+-- both behind some lines, at once or a frame at a time
+abbrev in_two : List StepLine → Cut
+in_two front = record { front = front; buffer = 0; piece = both; parts = part 0 10 ∷ part 10 10 ∷ []; back = [] }
 
-row-cut : counts_behind 1000 (part_lines 0 (part 0 3 ∷ part 3 0 ∷ part 3 9 ∷ part 12 8 ∷ [])) ≡ two_frames
+two-parts : IsInParts blobs both (part 0 10 ∷ part 10 10 ∷ [])
+two-parts = record { inside = refl; some = λ e. absurd (cc (e)); together = refl }
+
+row-cut : counts_behind 1000 (append_lines 0 (part 0 3 ∷ part 3 0 ∷ part 3 9 ∷ part 12 8 ∷ [])) ≡ two_frames
 unfolding string_parse frame_found id3_length found_at tick drain_entries
 row-cut = refl
 
@@ -74,75 +78,60 @@ row-cut = refl
 abbrev other_append : List StepLine
 other_append = Call (AppendBuffer 1 (record { blob = 1; part = None })) ∷ []
 
-row-late-whole : counts_behind 1000 (other_append ++ whole_lines) ≡ two_frames
+row-late-whole : counts_behind 1000 (whole_script (in_two other_append)) ≡ two_frames
 unfolding string_parse frame_found id3_length found_at tick drain_entries
 row-late-whole = refl
 
-row-late-cut : counts_behind 1000 (other_append ++ halves_lines) ≡ one_frame
+row-late-cut : counts_behind 1000 (cut_script (in_two other_append)) ≡ one_frame
 unfolding string_parse frame_found id3_length found_at tick drain_entries
 row-late-cut = refl
 
-other_append-room : IsUnmet blobs (two_buffers 1000) (other_append ++ whole_lines)
+late-whole-room : IsUnmet blobs (two_buffers 1000) (whole_script (in_two other_append))
 unfolding string_parse frame_found id3_length found_at tick drain_entries
-other_append-room = (refl, (refl, (tt, tt)))
+late-whole-room = (refl, (refl, (tt, tt)))
 
-other_append-cut-room : IsUnmet blobs (two_buffers 1000) (other_append ++ halves_lines)
+late-cut-room : IsUnmet blobs (two_buffers 1000) (cut_script (in_two other_append))
 unfolding string_parse frame_found id3_length found_at tick drain_entries
-other_append-cut-room = (refl, (refl, (tt, (refl, (tt, tt)))))
-
--- the append behind some lines, at once and a frame at a time
-abbrev cut_in_two : (front : List StepLine) → IsOtherCut blobs (front ++ whole_lines) (front ++ halves_lines)
-cut_in_two front = record {
-  front = front;
-  back = [];
-  buffer = 0;
-  piece = record { blob = 0; part = None };
-  bytes = frames;
-  start = 0;
-  total = 20;
-  first = part 0 10;
-  others = part 10 10 ∷ [];
-  blob = refl;
-  extent = refl;
-  inside = twenty;
-  parts = (10, 10, refl, refl, refl, (10, 0, refl, refl, refl, refl));
-  whole = refl;
-  cut = refl;
-}
-  where
-    twenty : 0 + 20 ≤ length frames
-    twenty = omega arith
+late-cut-room = (refl, (refl, (tt, (refl, (tt, tt)))))
 
 different : one_frame ≡ two_frames → ⊥
 different e = absurd (cc)
 
-pub needs-awaited : ((blobs : List (List ℕ)) (st : State) (s t : List StepLine) → IsOtherCut blobs s t → IsUnmet blobs st s → IsUnmet blobs st t → core_of (play_of blobs st t) ≡ core_of (play_of blobs st s)) → ⊥
+-- the two scripts come to the same
+abbrev pub IsCutAlike : List (List ℕ) → State → Cut → Type 0
+IsCutAlike blobs st cut = outcome_of (play_of blobs st (cut_script cut)) ≡ outcome_of (play_of blobs st (whole_script cut))
+
+pub needs-awaited : ((blobs : List (List ℕ)) (st : State) (cut : Cut) → IsInParts blobs cut.piece cut.parts → IsUnmet blobs st (whole_script cut) → IsUnmet blobs st (cut_script cut) → IsCutAlike blobs st cut) → ⊥
 needs-awaited f =
-    let same : core_of (play_of blobs (two_buffers 1000) (other_append ++ halves_lines)) ≡ (core_of (play_of blobs (two_buffers 1000) (other_append ++ whole_lines))) = f blobs (two_buffers 1000) (other_append ++ whole_lines) (other_append ++ halves_lines) (cut_in_two other_append) other_append-room other_append-cut-room in
+    let same : IsCutAlike blobs (two_buffers 1000) (in_two other_append) = f blobs (two_buffers 1000) (in_two other_append) two-parts late-whole-room late-cut-room in
     different (sym row-late-cut ∙ ap counts same ∙ row-late-whole)
 
--- ---- the quota must not be met: the first frame meets it
+-- ---- the quota must not be met: the first frame meets it, and so the second is refused where it comes behind
 
-row-quota-whole : counts_behind 10 whole_lines ≡ two_frames
+row-quota-whole : counts_behind 10 (whole_script (in_two [])) ≡ two_frames
 unfolding string_parse frame_found id3_length found_at tick drain_entries
 row-quota-whole = refl
 
-row-quota-cut : counts_behind 10 halves_lines ≡ one_frame
+row-quota-cut : counts_behind 10 (cut_script (in_two [])) ≡ one_frame
 unfolding string_parse frame_found id3_length found_at tick drain_entries
 row-quota-cut = refl
+
+quota-whole-room : IsUnmet blobs (two_buffers 10) (whole_script (in_two []))
+unfolding string_parse frame_found id3_length found_at tick drain_entries
+quota-whole-room = (refl, (tt, tt))
 
 nothing-runs : IsAwaited blobs (two_buffers 10) []
 nothing-runs = refl
 
-pub needs-room : ((blobs : List (List ℕ)) (st : State) (s t : List StepLine) (c : IsOtherCut blobs s t) → IsAwaited blobs st c.front → core_of (play_of blobs st t) ≡ core_of (play_of blobs st s)) → ⊥
-needs-room f =
-    let same : core_of (play_of blobs (two_buffers 10) halves_lines) ≡ (core_of (play_of blobs (two_buffers 10) whole_lines)) = f blobs (two_buffers 10) whole_lines halves_lines (cut_in_two []) nothing-runs in
+pub needs-cut-room : ((blobs : List (List ℕ)) (st : State) (cut : Cut) → IsInParts blobs cut.piece cut.parts → IsAwaited blobs st cut.front → IsUnmet blobs st (whole_script cut) → IsCutAlike blobs st cut) → ⊥
+needs-cut-room f =
+    let same : IsCutAlike blobs (two_buffers 10) (in_two []) = f blobs (two_buffers 10) (in_two []) two-parts nothing-runs quota-whole-room in
     different (sym row-quota-cut ∙ ap counts same ∙ row-quota-whole)
 
 -- ---- the parts must come in their order
 
 abbrev swapped_parts : List StepLine
-swapped_parts = part_lines 0 (part 5 15 ∷ part 0 5 ∷ [])
+swapped_parts = append_lines 0 (part 5 15 ∷ part 0 5 ∷ [])
 
 row-order : counts_behind 1000 swapped_parts ≡ [] ∷ [] ∷ []
 unfolding string_parse frame_found id3_length found_at tick drain_entries

@@ -1,6 +1,6 @@
 -- A source buffer to which fewer than 2 ^ 62 bytes are appended is not full.
-use Rattle.std.proofs.Common.{◌≡◌, ℕ, zero, suc, ◌+◌, ◌≤◌, ◌<◌, ◌^◌, Bool, true, false, ◌||◌, List, [], ◌∷◌, ◌++◌, length, drop, take, map, set, refl, ap, sym, subst, ◌∙◌, arith, length-append}
-use Rattle.std.specs.Prelude.{Option, Some, None, IfSome, slice_get, slice_set, nat_le, ◌-◌, if◌then◌else◌}
+use Rattle.std.proofs.Common.{◌≡◌, ℕ, zero, suc, ◌+◌, ◌≤◌, ◌<◌, ◌^◌, Bool, true, false, ◌||◌, List, [], ◌∷◌, ◌++◌, length, map, set, refl, ap, sym, subst, ◌∙◌, arith, length-append}
+use Rattle.std.specs.Prelude.{Option, Some, None, IfSome, slice_get, slice_set, nat_le, if◌then◌else◌}
 use Rattle.std.specs.Option.{option_flatten}
 use Rattle.std.proofs.lemmas.Bool.Decides.{nat_tests}
 use Rattle.std.proofs.lemmas.List.Sums.{sum_by-cons}
@@ -40,13 +40,12 @@ use Rattle.mse_engine.specs.State.{CoreSource, Core, State, core_of}
 use Rattle.mse_engine.specs.Work.{running_in}
 use Rattle.cut_law.specs.Plays.{after_line}
 use Rattle.cut_law.specs.Room.{HasRoomForCall, HasRoomFor}
-use Rattle.cut_law.specs.Cuts.{AreParts}
+use Rattle.cut_law.specs.Cuts.{bytes_of_pieces}
 use Rattle.cut_law.specs.Files.{after_piece, IfNoFault, IsRoomBeforeEach}
 use Rattle.cut_law.proofs.Halves.{Half, Ran, Whole, Stopped, ran_by, run, effect_source, half_behind, items_left, half_at_end, half_at_end-idle, half_after_append_by, half_after_append, is_refused, append_feed, begin_source}
 use Rattle.cut_law.proofs.Drains.{drain_core, append_core, on_slot, appended, at-idle, lowest, lowest-is, append-rests}
-use Rattle.cut_law.proofs.Drains as drains
 use Rattle.cut_law.proofs.Journals.{append_some, line-core}
-use Rattle.cut_law.proofs.AwaitedAppends.{piece-bytes}
+use Rattle.cut_law.proofs.AwaitedAppends.{parted}
 use Rattle.cut_law.specs.FileRooms.{IsHeldBefore, HasRoomForFile}
 
 -- ---- the bytes of the tracks can be counted
@@ -253,11 +252,6 @@ unless : (o : Option FaultView) (P : Type 0) → P → IfNoFault o P
 unless None P h = h
 unless (Some fault) P h = tt
 
-take-short : (n : ℕ) (xs : List ℕ) → length (take n xs) ≤ n
-take-short zero xs = omega arith
-take-short (suc n) [] = omega arith
-take-short (suc n) (x ∷ xs) = let rest = take-short n xs in omega (arith, rest)
-
 pub piece-core : (blobs : List (List ℕ)) (k : ℕ) (st : State) (piece : Piece) → HasRoomForCall blobs (core_of st) (AppendBuffer k piece) → core_of (after_piece blobs k st piece) ≡ drain_core (append_some (bytes_of blobs piece) k (core_of st))
 piece-core blobs k st piece room =
     line-core blobs (after_line blobs st (Call (AppendBuffer k piece))) Drain tt ∙ ap (λ c. drain_core c) (line-core blobs st (Call (AppendBuffer k piece)) room)
@@ -267,26 +261,20 @@ pub piece-room : (blobs : List (List ℕ)) (k : ℕ) (c : Core) (piece : Piece) 
 piece-room blobs k c piece start some e l h =
     subst (λ x. HasRoomFor x c.source.quota (in_slot k c.buffers)) (sym e) (room-for (in_slot k c.buffers) c.source.quota start some h.quota h.slot l)
 
-rooms : (pieces : List Piece) (blobs : List (List ℕ)) (k : ℕ) (st : State) (blob : ℕ) (bytes : List ℕ) (start total : ℕ) → slice_get blobs blob ≡ Some bytes → AreParts blob bytes start total pieces → start + total ≤ length bytes
-    → length bytes < 2 ^ 62 → lowest st.buffers ≡ None → HasRoomForFile start k (core_of st) → IsRoomBeforeEach blobs k st pieces
-rooms [] blobs k st blob bytes start total e p l short low h = tt
-rooms (piece ∷ pieces) blobs k st blob bytes start total e p l short low h =
-    let all : total ≡ p.0 + p.1 = p.4 in
-    let fits : start + p.0 ≤ length bytes = omega (arith, l, all) in
-    let left : start + p.0 + p.1 ≤ length bytes = omega (arith, l, all) in
-    let some : List ℕ = take p.0 (drop start bytes) in
-    let are : bytes_of blobs piece ≡ Some some = piece-bytes blobs piece blob start p.0 bytes e p.2 p.3 fits in
-    let few = take-short p.0 (drop start bytes) in
-    let room : HasRoomForCall blobs (core_of st) (AppendBuffer k piece) = piece-room blobs k (core_of st) piece start some are (omega (arith, few, fits, short)) h in
+rooms : (pieces : List Piece) (blobs : List (List ℕ)) (k : ℕ) (st : State) (start : ℕ) (bytes : List ℕ) → bytes_of_pieces blobs pieces ≡ Some bytes → start + length bytes < 2 ^ 62
+    → lowest st.buffers ≡ None → HasRoomForFile start k (core_of st) → IsRoomBeforeEach blobs k st pieces
+rooms [] blobs k st start bytes e short low h = tt
+rooms (piece ∷ pieces) blobs k st start bytes e short low h =
+    let p = parted (bytes_of blobs piece) (bytes_of_pieces blobs pieces) bytes e in
+    let long : length bytes ≡ length p.first + length p.more = ap (λ (xs : List ℕ). length xs) (sym p.bytes_are) ∙ length-append p.first p.more in
+    let room : HasRoomForCall blobs (core_of st) (AppendBuffer k piece) = piece-room blobs k (core_of st) piece start p.first p.first_is (omega (arith, long, short)) h in
     let new : State = after_piece blobs k st piece in
-    let core : core_of new ≡ drain_core (append_core some k (core_of st)) = piece-core blobs k st piece room ∙ ap (λ x. drain_core (append_some x k (core_of st))) are in
-    let rests : lowest new.buffers ≡ None = ap (λ (c : Core). lowest c.buffers) core ∙ append-rests some k (core_of st) low in
-    let gap : start + length some + (p.0 - length some) ≡ start + p.0 = omega (arith, few) in
-    let held : HasRoomForFile (start + length some) k (core_of new) = subst (λ (c : Core). HasRoomForFile (start + length some) k c) (sym core) (core-holds start some k (core_of st) low h) in
-    let later : HasRoomForFile (start + p.0) k (core_of new) = subst (λ n. HasRoomForFile n k (core_of new)) gap (holds-later (start + length some) (p.0 - length some) k (core_of new) held) in
-    unless st.source.fault _ (room, rooms pieces blobs k new blob bytes (start + p.0) p.1 e p.5 left short rests later)
+    let core : core_of new ≡ drain_core (append_core p.first k (core_of st)) = piece-core blobs k st piece room ∙ ap (λ x. drain_core (append_some x k (core_of st))) p.first_is in
+    let rests : lowest new.buffers ≡ None = ap (λ (c : Core). lowest c.buffers) core ∙ append-rests p.first k (core_of st) low in
+    let held : HasRoomForFile (start + length p.first) k (core_of new) = subst (λ (c : Core). HasRoomForFile (start + length p.first) k c) (sym core) (core-holds start p.first k (core_of st) low h) in
+    let few : start + length p.first + length p.more < 2 ^ 62 = omega (arith, long, short) in
+    unless st.source.fault _ (room, rooms pieces blobs k new (start + length p.first) p.more p.more_is few rests held)
 
-pub file-rooms : (blobs : List (List ℕ)) (k : ℕ) (st : State) (blob : ℕ) (bytes : List ℕ) (start total : ℕ) (pieces : List Piece) → slice_get blobs blob ≡ Some bytes → AreParts blob bytes start total pieces → start + total ≤ length bytes
-    → length bytes < 2 ^ 62 → running_in st ≡ None → HasRoomForFile start k (core_of st) → IsRoomBeforeEach blobs k st pieces
-file-rooms blobs k st blob bytes start total pieces e p l short idle h =
-    rooms pieces blobs k st blob bytes start total e p l short (sym (lowest-is st.buffers) ∙ idle) h
+pub file-rooms : (blobs : List (List ℕ)) (k : ℕ) (st : State) (start : ℕ) (bytes : List ℕ) (pieces : List Piece) → bytes_of_pieces blobs pieces ≡ Some bytes → start + length bytes < 2 ^ 62
+    → running_in st ≡ None → HasRoomForFile start k (core_of st) → IsRoomBeforeEach blobs k st pieces
+file-rooms blobs k st start bytes pieces e short idle h = rooms pieces blobs k st start bytes e short (sym (lowest-is st.buffers) ∙ idle) h

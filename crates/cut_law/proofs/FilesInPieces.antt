@@ -1,5 +1,5 @@
 -- A file that is appended piece by piece, up to the first fault, comes to what the whole file comes to.
-use Rattle.std.proofs.Common.{◌≡◌, ℕ, ◌+◌, ◌≤◌, ◌==◌, Bool, true, false, ◌⊎◌, inl, inr, List, [], ◌∷◌, ◌++◌, length, drop, take, refl, ap, sym, subst, ◌∙◌, arith}
+use Rattle.std.proofs.Common.{◌≡◌, ◌≢◌, ℕ, ◌==◌, Bool, true, false, ◌⊎◌, inl, inr, List, [], ◌∷◌, ◌++◌, length, refl, ap, sym, subst, ◌∙◌}
 use Rattle.std.specs.Prelude.{Option, Some, None, is_some, slice_get}
 use Rattle.mse_calls.specs.Pieces.{bytes_of}
 use Rattle.mse_calls.specs.declared.calls.Call.TheVariants.{AppendBuffer}
@@ -12,12 +12,12 @@ use Rattle.mse_engine.specs.State.{CoreSource, Core, State, core_of}
 use Rattle.mse_engine.specs.Work.{running_in}
 use Rattle.cut_law.specs.Plays.{after_line}
 use Rattle.cut_law.specs.Room.{HasRoomForCall}
-use Rattle.cut_law.specs.Cuts.{extent_of, AreParts}
+use Rattle.cut_law.specs.Cuts.{bytes_of_pieces, IsInParts}
 use Rattle.cut_law.specs.Files.{after_piece, unless_fault, after_pieces, IfNoFault, IsRoomBeforeEach}
 use Rattle.cut_law.proofs.Halves.{Half, Ran, Whole, Stopped, HasErrorIfStopped, half_behind, items_left, run, run-keeps, half_at_end, half_at_end-idle, half_after_append_by, half_after_append, is_refused, append_feed, begin_source}
 use Rattle.cut_law.proofs.Drains.{drain_core, append_core, on_slot, appended, at-idle, lowest, lowest-is, append-rests, cut-core}
 use Rattle.cut_law.proofs.Journals.{append_some, line-core}
-use Rattle.cut_law.proofs.AwaitedAppends.{piece-bytes, two-takes}
+use Rattle.cut_law.proofs.AwaitedAppends.{last-is, parted, some-of}
 use Rattle.cut_law.proofs.AppendsUpToFault.{some-dead}
 
 -- ---- an append leaves the first fault and the error, or brings both
@@ -64,31 +64,28 @@ rest-core : (q : List ℕ) (blobs : List (List ℕ)) (k : ℕ) (pieces : List Pi
 rest-core q blobs k pieces s d none fine low (inl p) f g = f (p.0 ∙ none) (ap (λ n. n == 0) p.1 ∙ fine)
 rest-core q blobs k pieces s d none fine low (inr p) f g = g p.1 ∙ sym (some-dead (Some q) k d p.0 low)
 
-files-core : (pieces : List Piece) (blobs : List (List ℕ)) (k blob start total : ℕ) (piece : Piece) (bytes : List ℕ) (c : Core) → slice_get blobs blob ≡ Some bytes → AreParts blob bytes start total (piece ∷ pieces) → start + total ≤ length bytes
+files-core : (pieces : List Piece) (blobs : List (List ℕ)) (k : ℕ) (piece : Piece) (bytes : List ℕ) (c : Core) → bytes_of_pieces blobs (piece ∷ pieces) ≡ Some bytes
     → lowest c.buffers ≡ None → c.source.fault ≡ None → (c.source.error == 0) ≡ true
-    → core_pieces blobs k c (piece ∷ pieces) ≡ drain_core (append_core (take total (drop start bytes)) k c)
-files-core [] blobs k blob start total piece bytes c e p l low none fine =
-    let one : total ≡ p.0 = omega (arith, p.4, p.5) in
-    let fits : start + p.0 ≤ length bytes = omega (arith, l, one) in
+    → core_pieces blobs k c (piece ∷ pieces) ≡ drain_core (append_core bytes k c)
+files-core [] blobs k piece bytes c e low none fine =
     ap (λ o. unless_fault o c (drain_core (append_some (bytes_of blobs piece) k c))) none
-    ∙ ap (λ x. drain_core (append_some x k c)) (piece-bytes blobs piece blob start p.0 bytes e p.2 p.3 fits)
-    ∙ ap (λ n. drain_core (append_core (take n (drop start bytes)) k c)) (sym one)
-files-core (next ∷ pieces) blobs k blob start total piece bytes c e p l low none fine =
-    let all : total ≡ p.0 + p.1 = p.4 in
-    let fits : start + p.0 ≤ length bytes = omega (arith, l, all) in
-    let left : start + p.0 + p.1 ≤ length bytes = omega (arith, l, all) in
-    let a : List ℕ = take p.0 (drop start bytes) in
-    let b : List ℕ = take p.1 (drop (start + p.0) bytes) in
-    let d : Core = drain_core (append_core a k c) in
-    let idle : lowest d.buffers ≡ None = append-rests a k c low in
+    ∙ ap (λ x. drain_core (append_some x k c)) (last-is blobs piece bytes e)
+files-core (next ∷ pieces) blobs k piece bytes c e low none fine =
+    let p = parted (bytes_of blobs piece) (bytes_of_pieces blobs (next ∷ pieces)) bytes e in
+    let d : Core = drain_core (append_core p.first k c) in
+    let idle : lowest d.buffers ≡ None = append-rests p.first k c low in
     ap (λ o. unless_fault o c (core_pieces blobs k (drain_core (append_some (bytes_of blobs piece) k c)) (next ∷ pieces))) none
-    ∙ ap (λ x. core_pieces blobs k (drain_core (append_some x k c)) (next ∷ pieces)) (piece-bytes blobs piece blob start p.0 bytes e p.2 p.3 fits)
-    ∙ rest-core b blobs k (next ∷ pieces) c.source d none fine idle (core-tells a k c low)
-    (λ n f. files-core pieces blobs k blob (start + p.0) p.1 next bytes d e p.5 left idle n f)
+    ∙ ap (λ x. core_pieces blobs k (drain_core (append_some x k c)) (next ∷ pieces)) p.first_is
+    ∙ rest-core p.more blobs k (next ∷ pieces) c.source d none fine idle (core-tells p.first k c low)
+    (λ n f. files-core pieces blobs k next p.more d p.more_is idle n f)
     (λ some. stops d.source.fault d (core_pieces blobs k (drain_core (append_some (bytes_of blobs next) k d)) pieces) some)
-    ∙ cut-core a b k c low
-    ∙ ap (λ xs. drain_core (append_core xs k c)) (two-takes start p.0 p.1 bytes)
-    ∙ ap (λ n. drain_core (append_core (take n (drop start bytes)) k c)) (sym all)
+    ∙ cut-core p.first p.more k c low
+    ∙ ap (λ xs. drain_core (append_core xs k c)) p.bytes_are
+
+some-files-core : (parts : List Piece) (blobs : List (List ℕ)) (k : ℕ) (bytes : List ℕ) (c : Core) → parts ≢ [] → bytes_of_pieces blobs parts ≡ Some bytes
+    → lowest c.buffers ≡ None → c.source.fault ≡ None → (c.source.error == 0) ≡ true → core_pieces blobs k c parts ≡ drain_core (append_core bytes k c)
+some-files-core [] blobs k bytes c some e low none fine = absurd (some refl)
+some-files-core (piece ∷ pieces) blobs k bytes c some e low none fine = files-core pieces blobs k piece bytes c e low none fine
 
 -- ---- on states
 
@@ -106,12 +103,12 @@ pieces-core : (pieces : List Piece) (blobs : List (List ℕ)) (k : ℕ) (st : St
 pieces-core [] blobs k st room = refl
 pieces-core (piece ∷ pieces) blobs k st room = pieces-by st.source.fault blobs k st piece pieces room (λ new r. pieces-core pieces blobs k new r)
 
-pub filing : (blobs : List (List ℕ)) (k : ℕ) (st : State) (whole : Piece) (bytes : List ℕ) (start total : ℕ) (first : Piece) (others : List Piece) → slice_get blobs whole.blob ≡ Some bytes → extent_of whole.part bytes ≡ (start, total) → start + total ≤ length bytes
-    → AreParts whole.blob bytes start total (first ∷ others) → running_in st ≡ None → st.source.fault ≡ None → (core_of st).source.error ≡ 0 → HasRoomForCall blobs (core_of st) (AppendBuffer k whole) → IsRoomBeforeEach blobs k st (first ∷ others)
-    → core_of (after_pieces blobs k st (first ∷ others)) ≡ core_of (after_piece blobs k st whole)
-filing blobs k st whole bytes start total first others e x l p idle none fine room rooms =
+pub filing : (blobs : List (List ℕ)) (k : ℕ) (st : State) (whole : Piece) (parts : List Piece) → IsInParts blobs whole parts → running_in st ≡ None → st.source.fault ≡ None → (core_of st).source.error ≡ 0
+    → HasRoomForCall blobs (core_of st) (AppendBuffer k whole) → IsRoomBeforeEach blobs k st parts → core_of (after_pieces blobs k st parts) ≡ core_of (after_piece blobs k st whole)
+filing blobs k st whole parts p idle none fine room rooms =
     let low : lowest st.buffers ≡ None = sym (lowest-is st.buffers) ∙ idle in
-    pieces-core (first ∷ others) blobs k st rooms
-    ∙ files-core others blobs k whole.blob start total first bytes (core_of st) e p l low none (ap (λ n. n == 0) fine)
-    ∙ sym (ap (λ o. drain_core (append_some o k (core_of st))) (piece-bytes blobs whole whole.blob start total bytes e refl x l))
+    let w = some-of (bytes_of blobs whole) p.inside in
+    pieces-core parts blobs k st rooms
+    ∙ some-files-core parts blobs k w.0 (core_of st) p.some (p.together ∙ w.1) low none (ap (λ n. n == 0) fine)
+    ∙ sym (ap (λ o. drain_core (append_some o k (core_of st))) w.1)
     ∙ sym (piece-core blobs k st whole room)

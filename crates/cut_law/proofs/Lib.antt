@@ -3,10 +3,13 @@ pub mod Drains
 pub mod DrainEnds
 pub mod Journals
 pub mod AwaitedAppends
+pub mod PartsByOffsets
 pub mod AppendsUpToFault
 pub mod Examples
+pub mod LongBlobs
 pub mod FilesInPieces
 pub mod Singles
 pub mod Counts
 pub mod FileRooms
 pub mod WholeFiles
+pub mod LineFronts

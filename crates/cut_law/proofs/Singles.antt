@@ -10,17 +10,19 @@ use Rattle.mse_calls.specs.declared.entry.Entry.{Entry}
 use Rattle.mse_calls.specs.declared.entry.Entry.TheVariants.{Step, Script, Listener, Fired, Work, Element}
 use Rattle.call_script.specs.declared.script.StepLine.{StepLine}
 use Rattle.call_script.specs.declared.script.StepLine.TheVariants as step
-use Rattle.mse_engine.specs.State.{State, core_of}
+use Rattle.mse_engine.specs.State.{State}
 use Rattle.mse_engine.specs.Work.{after_work, after_element_turn, fire_result, running_in, is_turn_due}
 use Rattle.mse_engine.specs.Run.{entry_meaning, step_meaning, fire_meaning, after_entries, IsReplay, fire_entries, entries_if}
 use Rattle.script_run.specs.DrainSteps.{IsDrain, IsNextStep, IsAtRest, AreInDrainOrder}
 use Rattle.script_run.specs.Turns.{ListenerTurn, first_turn, AreInTurn, calls_in}
 use Rattle.script_run.specs.Lines.{own_of, IsLineEntries, Limits, IsWithin, PlayInputs, play_inputs}
+use Rattle.script_run.proofs.CallsInPlace.{in_place}
 use Rattle.script_run.specs.Follows.{AreLinesDone}
 use Rattle.cut_law.specs.Plays.{after_entry, fired_entries, next_entry_by, next_entry, entries_behind, entries_then, drain_in, drain_entries, steps_left, line_entries, after_line, play_entries, play_of}
 use Rattle.cut_law.specs.Files.{after_piece}
+use Rattle.cut_law.specs.Outcomes.{AreAlike}
 use Rattle.cut_law.specs.Silent.{AreCutsAlike, IsSilentJournal}
-use Rattle.cut_law.proofs.AwaitedAppends.{cutting, recutting}
+use Rattle.cut_law.proofs.AwaitedAppends.{recutting}
 use Rattle.cut_law.proofs.DrainEnds.{with_queue, without-events, work-falls, work-holds, turn-holds, turn-falls}
 
 -- ---- no listener calls
@@ -168,7 +170,7 @@ silent-turns count turn (Work k ∷ xs) q = silent-turns count None xs q
 silent-turns count turn (Element ∷ xs) q = silent-turns count None xs q
 
 within : (limits : Limits) (xs : List Entry) → calls_in xs ≡ 0 → IsWithin limits xs
-within limits xs q = record { few = omega (arith, q); turns = silent-turns limits.count None xs q }
+within limits xs q = record { few = omega (arith, q); calls = in_place limits.count xs (silent-turns limits.count None xs q) }
 
 -- the entries of a line do what the line says, replay, and have no listener's call
 pub record IsReplayedLine (blobs : List (List ℕ)) (st : State) (line : StepLine) (part : List Entry) : Type 0 where
@@ -204,7 +206,7 @@ turn-replays : (o : Option State) (blobs : List (List ℕ)) (st : State) → aft
 turn-replays None blobs st e = tt
 turn-replays (Some new) blobs st e = (subst (λ o. (step_meaning o st).holds) (sym e) tt, tt)
 
-line-done : (blobs : List (List ℕ)) (st : State) (line : StepLine) → IsReplayedLine blobs st line (line_entries blobs st line)
+pub line-done : (blobs : List (List ℕ)) (st : State) (line : StepLine) → IsReplayedLine blobs st line (line_entries blobs st line)
 line-done blobs st (step.Call call) = record { does = refl; quiet = refl; replays = (refl, tt) }
 line-done blobs st step.Fire = record { does = fired-own (fire_result st); quiet = fired-quiet (fire_result st); replays = fired-replays (fire_result st) blobs st refl }
 line-done blobs st (step.Work k) =
@@ -282,14 +284,11 @@ pub silent-play : (blobs : List (List ℕ)) (limits : Limits) (st : State) (line
 silent-play blobs limits st lines = let p = some-play blobs limits 0 st lines in record { whole = p.whole; replays = p.replays; silent = p.silent }
 
 pub cuts-alike : (blobs : List (List ℕ)) (limits : Limits) (st : State) (s : List StepLine) (entries : List Entry) → IsSilentJournal blobs limits st s entries
-    → AreCutsAlike blobs st s (core_of (after_entries blobs st entries))
-cuts-alike blobs limits st s entries j =
-    let same : core_of (play_of blobs st s) ≡ (core_of (after_entries blobs st entries)) =
-    sym (ap (λ es. (core_of (after_entries blobs st es))) (one-play blobs limits 0 st s entries j.whole j.replays j.silent)) in
-    record {
-      once = λ t c a us ut. cutting blobs st s t c a us ut ∙ same;
-      again = λ steps t us cuts. recutting steps blobs st s t us cuts ∙ same;
-    }
+    → AreCutsAlike blobs st s (after_entries blobs st entries)
+cuts-alike blobs limits st s entries j = λ cuts t us are.
+    let same : play_of blobs st s ≡ after_entries blobs st entries =
+    sym (ap (λ es. after_entries blobs st es) (one-play blobs limits 0 st s entries j.whole j.replays j.silent)) in
+    subst (λ last. AreAlike (play_of blobs st t) last) same (recutting cuts blobs st s t us are)
 
 -- an append that is drained without a listener's call comes to what the same lines of the play come to
 pub append-drained : (blobs : List (List ℕ)) (k : ℕ) (st : State) (piece : Piece) (answer : Answer) (part : List Entry) → IsDrain blobs (after_entries blobs st (Script (AppendBuffer k piece) answer ∷ [])) part → calls_in part ≡ 0

@@ -6,10 +6,10 @@ use Rattle.mse_calls.specs.declared.calls.Call.TheVariants.{AppendBuffer}
 use Rattle.mse_calls.specs.declared.calls.Piece.{Piece}
 use Rattle.mse_calls.specs.declared.views.FaultView.{FaultView}
 use Rattle.mse_engine.specs.State.{Core, State, core_of}
-use Rattle.cut_law.specs.Cuts.{AreParts}
+use Rattle.cut_law.specs.Cuts.{IsInParts}
 use Rattle.cut_law.specs.Files.{after_piece, after_pieces, unless_fault}
 use Rattle.cut_law.specs.Room.{HasRoomForCall}
-use Rattle.cut_law.proofs.AwaitedAppends.{piece-bytes}
+use Rattle.cut_law.proofs.PartsByOffsets.{AreParts, parts-joined, piece-bytes, take-whole}
 use Rattle.cut_law.proofs.FilesInPieces.{filing}
 use Rattle.cut_law.proofs.Drains.{drain_core}
 use Rattle.cut_law.proofs.Journals.{append_some}
@@ -24,14 +24,13 @@ one-piece blobs k st piece none = ap (λ o. unless_fault o st (after_piece blobs
 pub whole-core : (bytes : List ℕ) (k : ℕ) (st : State) → length bytes < 2 ^ 62 → IsFresh k st → core_of (after_piece (bytes ∷ []) k st (whole_of 0)) ≡ drain_core (append_some (Some bytes) k (core_of st))
 whole-core bytes k st short fresh = piece-core (bytes ∷ []) k st (whole_of 0) (piece-room (bytes ∷ []) k (core_of st) (whole_of 0) 0 bytes refl (omega (arith, short)) fresh.little)
 
-pub in-parts : (bytes : List ℕ) (k : ℕ) (st : State) (first : Piece) (others : List Piece) → length bytes < 2 ^ 62 → AreParts 0 bytes 0 (length bytes) (first ∷ others) → IsFresh k st
-    → core_of (after_pieces (bytes ∷ []) k st (first ∷ others)) ≡ core_of (after_pieces (bytes ∷ []) k st (whole_of 0 ∷ []))
-in-parts bytes k st first others short p fresh =
+pub in-parts : (bytes : List ℕ) (k : ℕ) (st : State) (parts : List Piece) → length bytes < 2 ^ 62 → IsInParts (bytes ∷ []) (whole_of 0) parts → IsFresh k st
+    → core_of (after_pieces (bytes ∷ []) k st parts) ≡ core_of (after_pieces (bytes ∷ []) k st (whole_of 0 ∷ []))
+in-parts bytes k st parts short p fresh =
     let blobs : List (List ℕ) = bytes ∷ [] in
-    let inside : 0 + length bytes ≤ length bytes = omega arith in
-    filing blobs k st (whole_of 0) bytes 0 (length bytes) first others refl refl inside p fresh.running fresh.fault fresh.error
+    filing blobs k st (whole_of 0) parts p fresh.running fresh.fault fresh.error
     (piece-room blobs k (core_of st) (whole_of 0) 0 bytes refl (omega (arith, short)) fresh.little)
-    (file-rooms blobs k st 0 bytes 0 (length bytes) (first ∷ others) refl p inside short fresh.running fresh.little)
+    (file-rooms blobs k st 0 bytes parts p.together (omega (arith, short)) fresh.running fresh.little)
     ∙ ap (λ (s : State). core_of s) (sym (one-piece blobs k st (whole_of 0) fresh.fault))
 
 -- ---- bytes behind the first fault
@@ -65,12 +64,18 @@ behind bytes more k st short fresh fault =
     let none : length more ≡ length more + 0 = omega arith in
     let parts : AreParts 0 (bytes ++ more) 0 (length (bytes ++ more)) (front_of bytes ∷ rest_of bytes more ∷ []) =
     (length bytes, length more, refl, refl, long, (length more, 0, refl, refl, none, refl)) in
+    let inside : 0 + length (bytes ++ more) ≤ length (bytes ++ more) = omega arith in
+    let two : IsInParts blobs (whole_of 0) (front_of bytes ∷ rest_of bytes more ∷ []) = record {
+      inside = refl;
+      some = λ e. absurd (cc (e));
+      together = parts-joined (front_of bytes ∷ rest_of bytes more ∷ []) blobs 0 0 (length (bytes ++ more)) (bytes ++ more) refl parts inside ∙ ap (λ xs. Some xs) (take-whole (bytes ++ more));
+    } in
     let front : HasRoomForCall blobs (core_of st) (AppendBuffer k (front_of bytes)) = piece-room blobs k (core_of st) (front_of bytes) 0 bytes (front-bytes bytes more) (omega (arith, less)) fresh.little in
     let alone : core_of (after_piece blobs k st (front_of bytes)) ≡ (core_of (after_pieces (bytes ∷ []) k st (whole_of 0 ∷ []))) =
     piece-core blobs k st (front_of bytes) front ∙ ap (λ x. drain_core (append_some x k (core_of st))) (front-bytes bytes more)
     ∙ sym (whole-core bytes k st less fresh) ∙ ap (λ (s : State). core_of s) (sym (one-piece (bytes ∷ []) k st (whole_of 0) fresh.fault)) in
     let broken : IsSome (after_piece blobs k st (front_of bytes)).source.fault = subst (λ (c : Core). IsSome c.source.fault) (sym alone) fault in
-    sym (in-parts (bytes ++ more) k st (front_of bytes) (rest_of bytes more ∷ []) short parts fresh)
+    sym (in-parts (bytes ++ more) k st (front_of bytes ∷ rest_of bytes more ∷ []) short two fresh)
     ∙ ap (λ o. (core_of (unless_fault o st (after_pieces blobs k (after_piece blobs k st (front_of bytes)) (rest_of bytes more ∷ []))))) fresh.fault
     ∙ ap (λ (s : State). core_of s) (stopped (after_piece blobs k st (front_of bytes)).source.fault (after_piece blobs k st (front_of bytes)) (after_piece blobs k (after_piece blobs k st (front_of bytes)) (rest_of bytes more)) broken)
     ∙ alone

@@ -1,5 +1,6 @@
--- Two scripts of which one appends at once what the other appends in parts.
-use Rattle.std.specs.Prelude.{◌≡◌, ℕ, ◌+◌, ◌≤◌, List, [], ◌∷◌, ◌++◌, length, slice_get, Option, Some, None}
+-- A script that appends a piece at once, and one that appends it in parts.
+use Rattle.std.specs.Prelude.{◌≡◌, ◌≢◌, ℕ, List, [], ◌∷◌, ◌++◌, Option, Some, None, IsSome}
+use Rattle.mse_calls.specs.Pieces.{bytes_of}
 use Rattle.mse_calls.specs.declared.calls.Call.TheVariants.{AppendBuffer}
 use Rattle.mse_calls.specs.declared.calls.Piece.{Piece}
 use Rattle.call_script.specs.declared.script.StepLine.{StepLine}
@@ -9,60 +10,56 @@ use Rattle.mse_engine.specs.Work.{running_in}
 use Rattle.cut_law.specs.Plays.{play_of}
 use Rattle.cut_law.specs.Room.{IsUnmet}
 
--- where a part of some bytes starts and how long it is; all of them where no part is told
-abbrev pub extent_of : Option (ℕ × ℕ) → List ℕ → ℕ × ℕ
-extent_of None bytes = (0, length bytes)
-extent_of (Some part) bytes = part
+-- ---- the bytes of parts
 
--- The pieces are parts of a blob of these bytes that follow each other from an offset on, and have so many bytes together.
-abbrev pub AreParts : ℕ → List ℕ → ℕ → ℕ → List Piece → Type 0
-AreParts blob bytes start total [] = total ≡ 0
-AreParts blob bytes start total (piece ∷ pieces) =
-    (len : ℕ) × (others : ℕ) × (piece.blob ≡ blob) × (extent_of piece.part bytes ≡ (start, len))
-    × (total ≡ len + others)
-    × AreParts blob bytes (start + len) others pieces
+abbrev pub joined : Option (List ℕ) → Option (List ℕ) → Option (List ℕ)
+joined None more = None
+joined (Some bytes) None = None
+joined (Some bytes) (Some more) = Some (bytes ++ more)
 
--- an append and the drain behind it
-abbrev pub append_lines : ℕ → Piece → List StepLine
-append_lines k piece = Call (AppendBuffer k piece) ∷ Drain ∷ []
+-- the bytes of pieces, one piece behind the other, where each lies inside its blob
+abbrev pub bytes_of_pieces : List (List ℕ) → List Piece → Option (List ℕ)
+bytes_of_pieces blobs [] = Some []
+bytes_of_pieces blobs (piece ∷ pieces) = joined (bytes_of blobs piece) (bytes_of_pieces blobs pieces)
 
--- the same of each of some pieces
-abbrev pub part_lines : ℕ → List Piece → List StepLine
-part_lines k [] = []
-part_lines k (piece ∷ pieces) = append_lines k piece ++ part_lines k pieces
+-- The piece lies inside its blob, and the parts, of which there is at least one, have together just its bytes.
+pub record IsInParts (blobs : List (List ℕ)) (piece : Piece) (parts : List Piece) : Type 0 where
+  pub inside : IsSome (bytes_of blobs piece)
+  pub some : parts ≢ []
+  pub together : bytes_of_pieces blobs parts ≡ bytes_of blobs piece
 
--- The scripts have the same lines but for one place. There `s` appends a piece that lies inside its blob, and drains;
--- `t` appends one or more parts of it, in order and together the whole piece, and drains behind each.
-pub record IsOtherCut (blobs : List (List ℕ)) (s t : List StepLine) : Type 0 where
+-- ---- scripts
+
+-- the lines that append pieces to the source buffer of a number, with a drain behind each
+abbrev pub append_lines : ℕ → List Piece → List StepLine
+append_lines k [] = []
+append_lines k (piece ∷ pieces) = Call (AppendBuffer k piece) ∷ Drain ∷ append_lines k pieces
+
+-- where a script appends a piece, or the piece in parts: the lines before that, and those behind it
+pub record Cut : Type 0 where
   pub front : List StepLine
-  pub back : List StepLine
   pub buffer : ℕ
   pub piece : Piece
-  pub bytes : List ℕ
-  pub start : ℕ
-  pub total : ℕ
-  pub first : Piece
-  pub others : List Piece
-  pub blob : slice_get blobs piece.blob ≡ Some bytes
-  pub extent : extent_of piece.part bytes ≡ (start, total)
-  pub inside : start + total ≤ length bytes
-  pub parts : AreParts piece.blob bytes start total (first ∷ others)
-  pub whole : s ≡ front ++ (append_lines buffer piece ++ back)
-  pub cut : t ≡ front ++ (part_lines buffer (first ∷ others) ++ back)
+  pub parts : List Piece
+  pub back : List StepLine
 
--- the lines up to the part at which one stops: the first part, and others behind it
-abbrev pub stopped_lines : {blobs : List (List ℕ)} {s t : List StepLine} → IsOtherCut blobs s t
-    → List Piece → List StepLine
-stopped_lines c others = c.front ++ part_lines c.buffer (c.first ∷ others)
+-- the script that appends these pieces there
+abbrev pub script_with : List Piece → Cut → List StepLine
+script_with pieces cut = cut.front ++ (append_lines cut.buffer pieces ++ cut.back)
+
+abbrev pub whole_script : Cut → List StepLine
+whole_script cut = script_with (cut.piece ∷ []) cut
+
+abbrev pub cut_script : Cut → List StepLine
+cut_script cut = script_with cut.parts cut
 
 -- no append and no removal runs behind these lines
 abbrev pub IsAwaited : List (List ℕ) → State → List StepLine → Type 0
 IsAwaited blobs st front = running_in (play_of blobs st front) ≡ None
 
 -- one cut of an awaited append after another, from a script to another, through scripts that do not meet the quota
-abbrev pub AreCuts : List (List ℕ) → State → List StepLine → List (List StepLine) → List StepLine
-    → Type 0
+abbrev pub AreCuts : List (List ℕ) → State → List StepLine → List Cut → List StepLine → Type 0
 AreCuts blobs st s [] u = s ≡ u
-AreCuts blobs st s (t ∷ ts) u =
-    (c : IsOtherCut blobs s t) × IsAwaited blobs st c.front × IsUnmet blobs st t
-    × AreCuts blobs st t ts u
+AreCuts blobs st s (cut ∷ cuts) u =
+    (whole_script cut ≡ s) × IsInParts blobs cut.piece cut.parts × IsAwaited blobs st cut.front
+    × IsUnmet blobs st (cut_script cut) × AreCuts blobs st (cut_script cut) cuts u

@@ -1,5 +1,5 @@
 -- What appending comes to: what the source buffers hold, the duration, and the first fault.
-use Rattle.std.specs.Prelude.{ℕ, List, filter_map, Option, option_map}
+use Rattle.std.specs.Prelude.{◌≡◌, ℕ, List, filter_map, Option, option_map}
 use Rattle.mse_base.specs.declared.frame.Phase.{Phase}
 use Rattle.mse_base.specs.declared.span.Span.{Span}
 use Rattle.mse_base.specs.declared.ticks.Moment.{Moment}
@@ -54,3 +54,8 @@ core_outcome c = record {
 
 abbrev pub outcome_of : State → Outcome
 outcome_of st = core_outcome (core_of st)
+
+-- Appending came to the same in two states. Their cores are the same too, so that it goes on alike.
+pub record AreAlike (a b : State) : Type 0 where
+  pub outcome : outcome_of a ≡ outcome_of b
+  pub core : core_of a ≡ core_of b

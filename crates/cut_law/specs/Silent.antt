@@ -2,13 +2,14 @@
 use Rattle.std.specs.Prelude.{◌≡◌, ℕ, List, ◌++◌}
 use Rattle.mse_calls.specs.declared.entry.Entry.{Entry}
 use Rattle.call_script.specs.declared.script.StepLine.{StepLine}
-use Rattle.mse_engine.specs.State.{Core, State, core_of}
+use Rattle.mse_engine.specs.State.{State}
 use Rattle.mse_engine.specs.Run.{IsReplay, fired_events}
 use Rattle.mse_engine.specs.DrainCounts.{HasStepCounts, events_queued_in}
 use Rattle.script_run.specs.Turns.{calls_in}
 use Rattle.script_run.specs.Lines.{Limits}
 use Rattle.script_run.specs.Follows.{AreScriptLinesDone}
-use Rattle.cut_law.specs.Cuts.{AreCuts, IsOtherCut, IsAwaited}
+use Rattle.cut_law.specs.Cuts.{AreCuts, Cut}
+use Rattle.cut_law.specs.Outcomes.{AreAlike}
 use Rattle.cut_law.specs.Plays.{play_of}
 use Rattle.cut_law.specs.Room.{IsUnmet}
 
@@ -25,12 +26,9 @@ pub record IsDrainCounted (blobs : List (List ℕ)) (st : State) (part : List En
   pub steps : HasStepCounts blobs st part
   pub events : fired_events part ≡ st.element.queue ++ events_queued_in blobs st part
 
--- Each script in which an append of this one that was awaited is cut comes to this core, where neither meets the quota;
--- so does each to which one comes by one such cut after another.
-pub record AreCutsAlike (blobs : List (List ℕ)) (st : State) (s : List StepLine)
-    (core : Core) : Type 0 where
-  pub once : (t : List StepLine) (c : IsOtherCut blobs s t)
-      → IsAwaited blobs st c.front → IsUnmet blobs st s → IsUnmet blobs st t
-      → core_of (play_of blobs st t) ≡ core
-  pub again : (steps : List (List StepLine)) (t : List StepLine)
-      → IsUnmet blobs st s → AreCuts blobs st s steps t → core_of (play_of blobs st t) ≡ core
+-- Each script to which one comes from this one by cuts of awaited appends, one after another, comes to the same as this
+-- state, where none of them meets the quota.
+abbrev pub AreCutsAlike : List (List ℕ) → State → List StepLine → State → Type 0
+AreCutsAlike blobs st s last =
+    (cuts : List Cut) (t : List StepLine) → IsUnmet blobs st s → AreCuts blobs st s cuts t
+    → AreAlike (play_of blobs st t) last

@@ -8,9 +8,11 @@
 //! call of a listener, and `specs/FileRooms.antt` when a buffer holds little enough for a file.
 //!
 //! The laws are the contracts of functions that do nothing: in `laws` those of cuts on the machine,
-//! in `play_laws` those of journals, in `file_laws` those of a file that is appended to one buffer.
+//! in `play_laws` those of journals, in `line_laws` that of a line that was cut off, in `file_laws`
+//! those of a file that is appended to one buffer.
 #![tactic(auto)]
 
 pub mod file_laws;
 pub mod laws;
+pub mod line_laws;
 pub mod play_laws;

@@ -4,7 +4,7 @@
 ghost use Rattle.std.specs.Prelude.{◌≡◌, ℕ, List};
 ghost use Rattle.mse_calls.specs.declared.entry.Entry.{Entry};
 ghost use Rattle.call_script.specs.declared.script.StepLine.{StepLine};
-ghost use Rattle.mse_engine.specs.State.{State, core_of};
+ghost use Rattle.mse_engine.specs.State.{State};
 ghost use Rattle.mse_engine.specs.Run.{after_entries};
 ghost use Rattle.script_run.specs.DrainSteps.{IsDrain};
 ghost use Rattle.script_run.specs.Lines.{Limits};
@@ -28,11 +28,10 @@ pub fn one_play()
         → IsDrain blobs st part → calls_in part ≡ 0 → IsDrainCounted blobs st part }
 {}
 
-/// Where the journal of a run has no listener's call, cutting an append of its script that was
-/// awaited leaves the core of its last state, where no buffer is full just before an append of
-/// either script.
+/// Where the journal of a run has no listener's call, cutting awaited appends of its script comes to
+/// the same as the run did, where no buffer is full just before an append of any of the scripts.
 pub fn cut_journal()
     ensures { (blobs : List (List ℕ)) (limits : Limits) (st : State) (lines : List StepLine)
         (entries : List Entry) → IsSilentJournal blobs limits st lines entries
-        → AreCutsAlike blobs st lines (core_of (after_entries blobs st entries)) }
+        → AreCutsAlike blobs st lines (after_entries blobs st entries) }
 {}

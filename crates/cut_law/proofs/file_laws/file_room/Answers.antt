@@ -2,4 +2,4 @@ use Rattle.cut_law.proofs.FileRooms.{file-rooms}
 use Rattle.cut_law.proofs.file_laws.file_room.Goals as goal
 
 pub returns : goal.returns
-returns c = λ blobs k st blob bytes start total pieces e p l short idle h. file-rooms blobs k st blob bytes start total pieces e p l short idle h
+returns c = λ blobs k st held bytes parts e short idle h. file-rooms blobs k st held bytes parts e short idle h

@@ -2,7 +2,7 @@ use Rattle.cut_law.proofs.AwaitedAppends.{cutting, recutting}
 use Rattle.cut_law.proofs.laws.any_cutting.Goals as goal
 
 pub returns-clause-once : goal.returns-clause-once
-returns-clause-once c = λ blobs st s t x awaited us ut. cutting blobs st s t x awaited us ut
+returns-clause-once c = λ blobs st cut p awaited us ut. cutting blobs st cut p awaited us ut
 
 pub returns-clause-again : goal.returns-clause-again
-returns-clause-again c = λ blobs st s t steps us cuts. recutting steps blobs st s t us cuts
+returns-clause-again c = λ blobs st s t cuts us are. recutting cuts blobs st s t us are
