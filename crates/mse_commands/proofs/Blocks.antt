@@ -1,9 +1,10 @@
 -- What `ranges` and `pieces` print of one file.
 use Rattle.std.proofs.Common.{◌≡◌, ℕ, ◌+◌, ◌≤◌, ◌<◌, ◌^◌, ◌-◌, ℤ, pos, Bool, true, false, List, [], ◌∷◌, ◌++◌, length, refl, ap, sym, subst, ◌∙◌, arith, ⊎_elim, inl, inr}
-use Rattle.std.specs.Prelude.{◌⊎◌, min, Option, Some, None, IfSome, IsSome, IsSomeAnd, is_some, Result, Ok, ok_or, bytes_eq, codes, option_map, if◌then◌else◌}
+use Rattle.std.specs.Prelude.{◌⊎◌, min, Option, Some, None, IfSome, IsSome, IsSomeAnd, is_some, Ok, ok_or, bytes_eq, codes, option_map, if◌then◌else◌}
 use Rattle.std.proofs.lemmas.Bool.{cases_lt}
 use Rattle.bmff_boxes.specs.Reading.{◌>>=◌}
-use Rattle.mse_outside.specs.Outside.{Table}
+use Rattle.std.specs.List.{concat}
+use Rattle.mse_outside.specs.Outside.{SinkView, Table}
 use Rattle.mse_calls.specs.declared.answers.Answer.TheVariants as answer
 use Rattle.mse_calls.specs.declared.calls.Piece.{Piece}
 use Rattle.mse_calls.specs.declared.entry.Entry.{Entry}
@@ -15,23 +16,25 @@ use Rattle.mse_engine.specs.State.{Core, State, opening_state, core_of, source_o
 use Rattle.mse_engine.specs.Run.{after_entries}
 use Rattle.mse_engine.specs.Views.{view_in}
 use Rattle.mse_engine.proofs.Transitions.{after_entries-append}
+use Rattle.script_run.specs.Text.{lines_in}
 use Rattle.script_run.specs.Writes.{IsWritten}
-use Rattle.cut_law.specs.Cuts.{AreParts}
+use Rattle.cut_law.specs.Cuts.{IsInParts}
 use Rattle.cut_law.specs.Files.{after_piece, after_pieces, unless_fault}
 use Rattle.cut_law.proofs.Singles.{append-drained}
 use Rattle.cut_law.specs.FileRooms.{IsFresh, whole_of}
 use Rattle.cut_law.proofs.Drains.{drain_core}
 use Rattle.cut_law.proofs.Journals.{append_some}
+use Rattle.cut_law.proofs.PartsByOffsets.{AreParts, parts-joined, take-whole}
 use Rattle.cut_law.proofs.WholeFiles.{behind, in-parts, one-piece, whole-core}
 use Rattle.mse_commands.specs.declared.ending.Status.{Status}
 use Rattle.mse_commands.specs.declared.ending.Status.TheVariants as status
 use Rattle.mse_commands.specs.declared.words.Command.{Command}
 use Rattle.mse_commands.specs.declared.words.Command.TheVariants.{Ranges, Pieces, Make, Play, Remux, Feed}
-use Rattle.mse_commands.specs.declared.ending.End.{End}
 use Rattle.mse_commands.specs.declared.ending.End.TheVariants.{NoFile}
-use Rattle.mse_commands.specs.Requests.{Request, Task, ByFile, request_in, request_of}
+use Rattle.mse_commands.specs.Requests.{ByFile, request_in, request_of}
 use Rattle.mse_commands.specs.Files.{IsAppendCommand, IsJournalOf, IsThrough, AreNamesOfOneFile}
-use Rattle.mse_commands.specs.Outcomes.{IsEndOfRun, IsEndByTask, IsEndOfTask, RunOutcome}
+use Rattle.mse_commands.specs.Outcomes.{IsDoneBy, IsEndOfRun, RunOutcome}
+use Rattle.mse_commands.proofs.RunEnds.{ran_through}
 use Rattle.mse_commands.specs.Shown.{IsAppends, IsEndOrGoesOn, append_entry, last_state, open_entries, pieces_by, pieces_of, text_of}
 use Rattle.mse_commands.specs.Words.{IsInRange, command_of, file_of, finite_time, longest_piece, most_segments, count_of_word}
 use Rattle.mse_commands.proofs.Numbers.{bounds_by}
@@ -48,7 +51,7 @@ rest-is : (o : Option FaultView) (blobs : List (List ℕ)) (st : State) (pieces 
 rest-is None blobs st pieces rest e u f = f e u
 rest-is (Some fault) blobs st pieces rest e u f = ap (λ es. after_entries blobs st es) u ∙ sym (stays blobs st fault pieces e)
 
-appends-are : (pieces : List Piece) (blobs : List (List ℕ)) (st : State) (entries : List Entry) → st.source.fault ≡ None → IsAppends blobs st pieces entries → after_entries blobs st entries ≡ after_pieces blobs 0 st pieces
+pub appends-are : (pieces : List Piece) (blobs : List (List ℕ)) (st : State) (entries : List Entry) → st.source.fault ≡ None → IsAppends blobs st pieces entries → after_entries blobs st entries ≡ after_pieces blobs 0 st pieces
 appends-are [] blobs st entries none a = ap (λ es. after_entries blobs st es) a
 appends-are (piece ∷ pieces) blobs st entries none a =
     let here : List Entry = append_entry piece a.0 ∷ a.1 in
@@ -62,7 +65,7 @@ appends-are (piece ∷ pieces) blobs st entries none a =
 
 -- ---- the source that is opened
 
-abbrev opened : List (List ℕ) → State
+abbrev pub opened : List (List ℕ) → State
 opened blobs = after_entries blobs (opening_state (2 ^ 62) (pos 0)) (open_entries answer.Done answer.Done)
 
 opened-same : (blobs others : List (List ℕ)) → opened blobs ≡ opened others
@@ -101,7 +104,7 @@ parts-left (piece ∷ pieces) bytes size at some l p =
     (λ (h : length bytes ≤ at). let none = none_left size (length bytes) at (piece ∷ pieces) some h p in absurd (cc (none)))
     (cases_lt at (length bytes))
 
-pieces-parts : (command : Command) (bytes : List ℕ) → IsAppendCommand command → IsInRange command → AreParts 0 bytes 0 (length bytes) (pieces_by command (length bytes))
+pub pieces-parts : (command : Command) (bytes : List ℕ) → IsAppendCommand command → IsInRange command → AreParts 0 bytes 0 (length bytes) (pieces_by command (length bytes))
 pieces-parts Ranges bytes a r = let one : length bytes ≡ length bytes + 0 = omega arith in (length bytes, 0, refl, refl, one, refl)
 pieces-parts (Pieces size) bytes a r =
     let all : length bytes - 0 ≡ length bytes = omega arith in
@@ -133,15 +136,30 @@ empty-file (byte ∷ bytes) e = absurd (omega arith)
 
 -- ---- the core
 
-file-core-by : (pieces : List Piece) (bytes : List ℕ) → length bytes < 2 ^ 62 → AreParts 0 bytes 0 (length bytes) pieces
+pub file-core-by : (pieces : List Piece) (bytes : List ℕ) → length bytes < 2 ^ 62 → AreParts 0 bytes 0 (length bytes) pieces
     → core_of (after_pieces (bytes ∷ []) 0 (opened (bytes ∷ [])) pieces) ≡ core_of (after_pieces (bytes ∷ []) 0 (opened (bytes ∷ [])) (whole_of 0 ∷ []))
 file-core-by [] bytes short p = empty-file bytes p
-file-core-by (piece ∷ pieces) bytes short p = in-parts bytes 0 (opened (bytes ∷ [])) piece pieces short p (fresh (bytes ∷ []))
+file-core-by (piece ∷ pieces) bytes short p =
+    let inside : 0 + length bytes ≤ length bytes = omega arith in
+    let parts : IsInParts (bytes ∷ []) (whole_of 0) (piece ∷ pieces) = record {
+      inside = refl;
+      some = λ e. absurd (cc (e));
+      together = parts-joined (piece ∷ pieces) (bytes ∷ []) 0 0 (length bytes) bytes refl p inside ∙ ap (λ xs. Some xs) (take-whole bytes);
+    } in
+    in-parts bytes 0 (opened (bytes ∷ [])) (piece ∷ pieces) short parts (fresh (bytes ∷ []))
 
 file-core : (command : Command) (bytes : List ℕ) (entries : List Entry) → length bytes < 2 ^ 62 → IsJournalOf command bytes entries
     → core_of (last_state (ByFile command bytes) entries) ≡ core_of (after_pieces (bytes ∷ []) 0 (opened (bytes ∷ [])) (whole_of 0 ∷ []))
 file-core command bytes entries short j =
     ap (λ (s : State). core_of s) (journal-is command bytes entries j) ∙ file-core-by (pieces_by command (length bytes)) bytes short (pieces-parts command bytes j.appends j.number)
+
+-- the core that appending the file comes to
+pub file-drained : (command : Command) (bytes : List ℕ) (entries : List Entry) → length bytes < 2 ^ 62 → IsJournalOf command bytes entries
+    → core_of (last_state (ByFile command bytes) entries) ≡ drain_core (append_some (Some bytes) 0 (core_of (opened (bytes ∷ []))))
+file-drained command bytes entries short j =
+    file-core command bytes entries short j
+    ∙ ap (λ (s : State). core_of s) (one-piece (bytes ∷ []) 0 (opened (bytes ∷ [])) (whole_of 0) refl)
+    ∙ whole-core bytes 0 (opened (bytes ∷ [])) short (fresh (bytes ∷ []))
 
 pub one-core : (a b : Command) (bytes : List ℕ) (entries others : List Entry) → length bytes < 2 ^ 62 → IsJournalOf a bytes entries → IsJournalOf b bytes others
     → core_of (last_state (ByFile a bytes) entries) ≡ core_of (last_state (ByFile b bytes) others)
@@ -149,10 +167,10 @@ one-core a b bytes entries others short p q = file-core a bytes entries short p 
 
 -- ---- the text
 
-core-text : (a b : State) → core_of a ≡ core_of b → closing_text (view_in a) false ≡ closing_text (view_in b) false
+pub core-text : (a b : State) → core_of a ≡ core_of b → closing_text (view_in a) false ≡ closing_text (view_in b) false
 core-text a b e = ap (λ (c : Core). closing_text (view_in (record { source = source_of c.source; buffers = c.buffers; element = a.element })) false) e
 
-block-is : (command : Command) (bytes : List ℕ) (entries : List Entry) → IsAppendCommand command → text_of (ByFile command bytes) entries ≡ closing_text (view_in (last_state (ByFile command bytes) entries)) false
+block-is : (command : Command) (bytes : List ℕ) (entries : List Entry) → IsAppendCommand command → text_of (ByFile command bytes) entries ≡ lines_in (closing_text (view_in (last_state (ByFile command bytes) entries)) false)
 block-is Ranges bytes entries a = refl
 block-is (Pieces count) bytes entries a = refl
 block-is (Make count) bytes entries a = absurd a
@@ -160,12 +178,19 @@ block-is Play bytes entries a = absurd a
 block-is Remux bytes entries a = absurd a
 block-is (Feed at) bytes entries a = absurd a
 
+-- the block is that of the core
+pub block-of-core : (command : Command) (bytes : List ℕ) (entries : List Entry) (c : Core) → IsAppendCommand command → core_of (last_state (ByFile command bytes) entries) ≡ c
+    → text_of (ByFile command bytes) entries ≡ lines_in (closing_text (view_in (record { source = source_of c.source; buffers = c.buffers; element = (last_state (ByFile command bytes) entries).element })) false)
+block-of-core command bytes entries c a e =
+    block-is command bytes entries a
+    ∙ ap (λ (d : Core). lines_in (closing_text (view_in (record { source = source_of d.source; buffers = d.buffers; element = (last_state (ByFile command bytes) entries).element })) false)) e
+
 same-text : (a b : Command) (bytes others : List ℕ) (xs ys : List Entry) → IsAppendCommand a → IsAppendCommand b → core_of (last_state (ByFile a bytes) xs) ≡ core_of (last_state (ByFile b others) ys)
     → text_of (ByFile a bytes) xs ≡ text_of (ByFile b others) ys
 same-text a b bytes others xs ys p q e =
     let s : State = last_state (ByFile a bytes) xs in
     let t : State = last_state (ByFile b others) ys in
-    block-is a bytes xs p ∙ core-text s t e ∙ sym (block-is b others ys q)
+    block-is a bytes xs p ∙ ap lines_in (core-text s t e) ∙ sym (block-is b others ys q)
 
 pub one-text : (a b : Command) (bytes : List ℕ) (entries others : List Entry) → length bytes < 2 ^ 62 → IsJournalOf a bytes entries → IsJournalOf b bytes others
     → text_of (ByFile a bytes) entries ≡ text_of (ByFile b bytes) others
@@ -218,11 +243,11 @@ task-is Remux files name bytes a e = absurd a
 task-is (Feed at) files name bytes a e = absurd a
 
 -- the words ask for the file
-record AreWordsForFile (files : Table) (words : List (List ℕ)) (bytes : List ℕ) : Type 0 where
-  command : Command
-  appends : IsAppendCommand command
-  number : IsInRange command
-  task : (request_in files words).task ≡ Ok (ByFile command bytes)
+pub record AreWordsForFile (files : Table) (words : List (List ℕ)) (bytes : List ℕ) : Type 0 where
+  pub command : Command
+  pub appends : IsAppendCommand command
+  pub number : IsInRange command
+  pub task : (request_in files words).task ≡ Ok (ByFile command bytes)
 
 names-by : (o : Option Command) (files : Table) (words : List (List ℕ)) (bytes : List ℕ) → command_of words ≡ o → IfSome o IsInRange → IsSomeAnd o IsAppendCommand → files (file_of words) ≡ Some bytes → AreWordsForFile files words bytes
 names-by None files words bytes e r a found = absurd a
@@ -233,7 +258,7 @@ names-by (Some command) files words bytes e r a found = record {
   task = ap (λ o. (request_of files (file_of words) o).task) e ∙ task-is command files (file_of words) bytes a found;
 }
 
-names : (files : Table) (words : List (List ℕ)) (bytes : List ℕ) → IsSomeAnd (command_of words) IsAppendCommand → files (file_of words) ≡ Some bytes → AreWordsForFile files words bytes
+pub names : (files : Table) (words : List (List ℕ)) (bytes : List ℕ) → IsSomeAnd (command_of words) IsAppendCommand → files (file_of words) ≡ Some bytes → AreWordsForFile files words bytes
 names files words bytes a found = names-by (command_of words) files words bytes refl (command-range words) a found
 
 abbrev status_by : Bool → Status
@@ -250,32 +275,24 @@ record IsFileRunToEnd (command : Command) (bytes : List ℕ) (left : RunOutcome)
   wrote : IsWritten (text_of (ByFile command bytes) left.entries) left.before.written left.now.written
   end_is : end ≡ status_by (is_some (last_state (ByFile command bytes) left.entries).source.fault)
 
-ran-file : (n : ℕ) (request : Request) (command : Command) (bytes : List ℕ) (left : RunOutcome) (end : Status) → IsAppendCommand command → IsInRange command → IsThrough end → IsEndOfTask n request (ByFile command bytes) left end → IsFileRunToEnd command bytes left end
-ran-file n request command bytes left end a r (inl e) ends =
-    let all = subst (λ (x : Status). IsEndOfTask n request (ByFile command bytes) left x) e ends in
-    record {
-      journal = record { appends = a; number = r; whole = all.0.all };
-      wrote = all.0.wrote;
-      end_is = e ∙ ap status_by (sym (not-some (last_state (ByFile command bytes) left.entries).source.fault all.1));
-    }
-ran-file n request command bytes left end a r (inr e) ends =
-    let all = subst (λ (x : Status). IsEndOfTask n request (ByFile command bytes) left x) e ends in
-    record {
-      journal = record { appends = a; number = r; whole = all.0.all };
-      wrote = all.0.wrote;
-      end_is = e ∙ ap status_by (sym all.1);
-    }
+status-is : (command : Command) (bytes : List ℕ) (entries : List Entry) (end : Status) → IsDoneBy (ByFile command bytes) entries end → end ≡ status_by (is_some (last_state (ByFile command bytes) entries).source.fault)
+status-is command bytes entries end (inl p) = p.0 ∙ ap status_by (sym (not-some (last_state (ByFile command bytes) entries).source.fault p.1))
+status-is command bytes entries end (inr p) = p.0 ∙ ap status_by (sym p.1)
 
 file-run : (n : ℕ) (files : Table) (words : List (List ℕ)) (bytes : List ℕ) (left : RunOutcome) (end : Status) (named : AreWordsForFile files words bytes) → IsThrough end → IsEndOfRun n (request_in files words) left end → IsFileRunToEnd named.command bytes left end
 file-run n files words bytes left end named through ends =
-    ran-file n (request_in files words) named.command bytes left end named.appends named.number through
-    (subst (λ (r : Result Task End). IsEndByTask n (request_in files words) r left end) named.task ends)
+    let all = ran_through n (request_in files words) (ByFile named.command bytes) left end named.task through ends in
+    record {
+      journal = record { appends = named.appends; number = named.number; whole = all.ran.all };
+      wrote = all.ran.wrote;
+      end_is = status-is named.command bytes left.entries end all.done;
+    }
 
-wrote-is : (text before : List ℕ) (old new : Option (List ℕ)) → old ≡ Some before → IsWritten text old new → new ≡ Some (before ++ text)
-wrote-is text before old new e w = subst (λ (o : Option (List ℕ)). IsWritten text o new) e w
+wrote-is : (lines : List (List ℕ)) (before : List ℕ) (old new : SinkView) → old.bytes ≡ Some before → IsWritten lines old new → new.bytes ≡ Some (before ++ concat lines)
+wrote-is lines before old new e w = subst (λ (o : Option (List ℕ)). IfSome o (λ bytes. new.bytes ≡ Some (bytes ++ concat lines))) e w.bytes
 
 pub one-run : (files : Table) (a b : List (List ℕ)) (bytes : List ℕ) (n m : ℕ) (before : List ℕ) (s t : RunOutcome) (x y : Status) → AreNamesOfOneFile files a b bytes → length bytes < 2 ^ 62
-    → s.before.written ≡ Some before → t.before.written ≡ Some before → IsThrough x → IsThrough y → IsEndOfRun n (request_in files a) s x → IsEndOfRun m (request_in files b) t y → (x ≡ y) × (s.now.written ≡ t.now.written)
+    → s.before.written.bytes ≡ Some before → t.before.written.bytes ≡ Some before → IsThrough x → IsThrough y → IsEndOfRun n (request_in files a) s x → IsEndOfRun m (request_in files b) t y → (x ≡ y) × (s.now.written.bytes ≡ t.now.written.bytes)
 one-run files a b bytes n m before s t x y one short i j f g p q =
     let first : AreWordsForFile files a bytes = names files a bytes one.first one.found in
     let second : AreWordsForFile files b bytes = names files b bytes one.second (ap files (sym one.same) ∙ one.found) in
@@ -285,6 +302,6 @@ one-run files a b bytes n m before s t x y one short i j f g p q =
     let text = one-text first.command second.command bytes s.entries t.entries short here.journal there.journal in (
       here.end_is ∙ ap (λ (c : Core). status_by (is_some c.source.fault)) core ∙ sym there.end_is,
       wrote-is (text_of (ByFile first.command bytes) s.entries) before s.before.written s.now.written i here.wrote
-          ∙ ap (λ zs. Some (before ++ zs)) text
+          ∙ ap (λ zs. Some (before ++ concat zs)) text
           ∙ sym (wrote-is (text_of (ByFile second.command bytes) t.entries) before t.before.written t.now.written j there.wrote),
     )

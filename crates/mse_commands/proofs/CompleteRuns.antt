@@ -1,6 +1,6 @@
 -- A run goes through to its end where nothing stands in its way, and what then is known of cut scripts.
-use Rattle.std.proofs.Common.{◌≡◌, ℕ, List, refl, subst, inl, inr}
-use Rattle.std.specs.Prelude.{Option, Some, None, IfSome, Result, Ok, ◌⊎◌}
+use Rattle.std.proofs.Common.{◌≡◌, ℕ, List, refl, sym, ◌∙◌, subst, inl, inr}
+use Rattle.std.specs.Prelude.{Option, Some, None, IfSome, Ok, ◌⊎◌}
 use Rattle.mse_outside.specs.Outside.{HasRisen, Table}
 use Rattle.call_script.specs.declared.script.Script.{Script as CallScript}
 use Rattle.script_run.specs.Lines.{limits}
@@ -8,34 +8,61 @@ use Rattle.script_run.specs.Turns.{calls_in}
 use Rattle.cut_law.specs.Silent.{AreCutsAlike}
 use Rattle.cut_law.proofs.Singles.{cuts-alike}
 use Rattle.mse_commands.specs.declared.ending.End.{End}
-use Rattle.mse_commands.specs.declared.ending.End.TheVariants.{CallBudget, TaskBudget}
+use Rattle.mse_commands.specs.declared.ending.End.TheVariants.{Memory, Write, Words, NoFile, Read, Script, CallBudget, TaskBudget}
 use Rattle.mse_commands.specs.declared.ending.Status.{Status}
 use Rattle.mse_commands.specs.declared.ending.Status.TheVariants as status
 use Rattle.mse_commands.specs.Requests.{HasRequestOfWords, Request, Task, ByScript, request_in, opening_of}
 use Rattle.mse_commands.specs.Loads.{failures}
-use Rattle.mse_commands.specs.Outcomes.{IsEndOfRun, IsEndByTask, IsEndOfTask, RunOutcome, IsWholeRun}
+use Rattle.mse_commands.specs.Files.{IsThrough}
+use Rattle.mse_commands.specs.Outcomes.{IsEndOfRun, IsEnding, Ending, Whole, OverLimit, CutShort, Refused, Unbegun, IsStatusOf, IsPrintedBy, IsRefusal, HasCause, RunOutcome, IsWholeRun}
+use Rattle.mse_commands.proofs.RunEnds.{ran_through}
 use Rattle.mse_commands.specs.Complete.{IsCutAnywhere, IsComplete, IsUnhindered, IsRunToEnd}
 use Rattle.mse_commands.specs.Shown.{last_state}
-use Rattle.mse_engine.specs.State.{core_of}
 
 -- ---- to the end
 
-run_complete : (count : ℕ) (request : Request) (task : Task) (left : RunOutcome) (a b : ℕ) (s : Status) → IsEndOfTask count request task left s → (s ≡ status.Write → HasRisen a b) → IsUnhindered task left (failures a b)
-    → IsRunToEnd count task left s ⊎ (s ≡ status.Memory)
-run_complete count request task left a b status.Ok p w u = inl (record { ran = p.0; done = inl (refl, p.1) })
-run_complete count request task left a b status.Media p w u = inl (record { ran = p.0; done = inr (refl, p.1) })
-run_complete count request task left a b status.Memory p w u = inr refl
-run_complete count request task left a b status.Write p w u = absurd (u.puts_done (w refl))
-run_complete count request task left a b status.Read p w u = absurd (u.loads_done p.cause.rose)
-run_complete count request task left a b status.CallBudget p w u = absurd (u.calls_within (CallBudget p.0) p.1.cause)
-run_complete count request task left a b status.TaskBudget p w u = absurd (u.calls_within (TaskBudget p.0) p.1.cause)
-run_complete count request task left a b status.Words p w u = absurd p
-run_complete count request task left a b status.Script p w u = absurd p
-run_complete count request task left a b status.NoFile p w u = absurd p
+-- a limit of calls stops no task that is unhindered, and no task is refused that there is but for a load that failed
+not_refused : (why : End) (request : Request) (task : Task) (left : RunOutcome) (a b : ℕ) → request.task ≡ Ok task → IsUnhindered task left (failures a b) → IsRefusal request left why → ⊥
+not_refused (Read name) request task left a b is u p = u.loads_done p.0
+not_refused Memory request task left a b is u p = cc (sym p ∙ is)
+not_refused Write request task left a b is u p = cc (sym p ∙ is)
+not_refused Words request task left a b is u p = cc (sym p ∙ is)
+not_refused (NoFile name) request task left a b is u p = cc (sym p ∙ is)
+not_refused (Script fault) request task left a b is u p = cc (sym p ∙ is)
+not_refused (CallBudget k) request task left a b is u p = cc (sym p ∙ is)
+not_refused (TaskBudget limit) request task left a b is u p = cc (sym p ∙ is)
+
+-- where all of the text was written, all was run
+all_ended : (ending : Ending) (count : ℕ) (request : Request) (task : Task) (left : RunOutcome) (a b : ℕ) (s : Status) → request.task ≡ Ok task → IsUnhindered task left (failures a b)
+    → IsEnding count request left ending → IsStatusOf left.entries ending s → IsThrough s
+all_ended (Whole t) count request task left a b s is u f p = elim p [ inl q ↦ inl q.0 | inr q ↦ inr q.0 ]
+all_ended (OverLimit t why) count request task left a b s is u f p =
+    let same : t ≡ task = cc (sym f.0 ∙ is) in
+    absurd (u.calls_within why (subst (λ (x : Task). HasCause x left why) same f.3))
+all_ended (CutShort t) count request task left a b s is u f p = absurd p
+all_ended (Refused why) count request task left a b s is u f p = absurd (not_refused why request task left a b is u f.1)
+all_ended Unbegun count request task left a b s is u f p = absurd p
+
+-- the status tells how much was written
+wrote_all : (s : Status) (ending : Ending) (left : RunOutcome) → IsPrintedBy s ending left → (s ≡ status.Write) ⊎ (s ≡ status.Memory) ⊎ IsStatusOf left.entries ending s
+wrote_all status.Write ending left p = inl refl
+wrote_all status.Memory ending left p = inr (inl refl)
+wrote_all status.Ok ending left p = inr (inr p.status_is)
+wrote_all status.Media ending left p = inr (inr p.status_is)
+wrote_all status.Read ending left p = inr (inr p.status_is)
+wrote_all status.CallBudget ending left p = inr (inr p.status_is)
+wrote_all status.TaskBudget ending left p = inr (inr p.status_is)
+wrote_all status.Words ending left p = inr (inr p.status_is)
+wrote_all status.Script ending left p = inr (inr p.status_is)
+wrote_all status.NoFile ending left p = inr (inr p.status_is)
 
 pub ends_complete : (count : ℕ) (request : Request) (left : RunOutcome) (a b : ℕ) (s : Status) → IsEndOfRun count request left s → (s ≡ status.Write → HasRisen a b) → IsComplete count request left (failures a b) s
-ends_complete count request left a b s p w = λ task is u.
-    run_complete count request task left a b s (subst (λ (t : Result Task End). IsEndByTask count request t left s) is p) w u
+ends_complete count request left a b s p w = λ task is u. by_text task is u (wrote_all s p.ending left p.printed)
+  where
+    by_text : (task : Task) → request.task ≡ Ok task → IsUnhindered task left (failures a b) → (s ≡ status.Write) ⊎ (s ≡ status.Memory) ⊎ IsStatusOf left.entries p.ending s → IsRunToEnd count task left s ⊎ (s ≡ status.Memory)
+    by_text task is u (inl e) = absurd (u.puts_done (w e))
+    by_text task is u (inr (inl e)) = inr e
+    by_text task is u (inr (inr e)) = inl (ran_through count request task left s is (all_ended p.ending count request task left a b s is u p.follows e) p)
 
 pub complete_by : (table : Option Table) (words : List (List ℕ)) (count : ℕ) (left : RunOutcome) (a b : ℕ) (s : Status) → HasRequestOfWords table words (λ request. IsEndOfRun count request left s) → (s ≡ status.Write → HasRisen a b)
     → IfSome table (λ files. IsComplete count (request_in files words) left (failures a b) s)
@@ -46,15 +73,12 @@ complete_by (Some files) words count left a b s p w =
 -- ---- cut anywhere
 
 whole_cuts : (count : ℕ) (script : CallScript) (blobs : List (List ℕ)) (left : RunOutcome) → IsWholeRun count (ByScript script blobs) left → calls_in left.entries ≡ 0
-    → AreCutsAlike blobs (opening_of (ByScript script blobs)) script.steps (core_of (last_state (ByScript script blobs) left.entries))
+    → AreCutsAlike blobs (opening_of (ByScript script blobs)) script.steps (last_state (ByScript script blobs) left.entries)
 whole_cuts count script blobs left p silent =
     cuts-alike blobs (limits script.drain count) (opening_of (ByScript script blobs)) script.steps left.entries (record { whole = p.all; replays = p.run.replays; silent = silent })
 
 pub ends_cuts : (count : ℕ) (request : Request) (left : RunOutcome) (s : Status) → IsEndOfRun count request left s → IsCutAnywhere request left.entries s
-ends_cuts count request left s p = λ script blobs is end silent.
-    let ok : IsEndOfRun count request left status.Ok = subst (λ (x : Status). IsEndOfRun count request left x) end p in
-    let ran : IsEndOfTask count request (ByScript script blobs) left status.Ok = subst (λ (t : Result Task End). IsEndByTask count request t left status.Ok) is ok in
-    whole_cuts count script blobs left ran.0 silent
+ends_cuts count request left s p = λ script blobs is end silent. whole_cuts count script blobs left (ran_through count request (ByScript script blobs) left s is (inl end) p).ran silent
 
 pub cuts_by : (table : Option Table) (words : List (List ℕ)) (count : ℕ) (left : RunOutcome) (s : Status) → HasRequestOfWords table words (λ request. IsEndOfRun count request left s)
     → IfSome table (λ files. IsCutAnywhere (request_in files words) left.entries s)

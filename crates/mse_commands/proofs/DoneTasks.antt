@@ -2,7 +2,7 @@
 use Rattle.std.proofs.Common.{◌≡◌, ◌≤◌, ℕ, suc, List, [], ◌∷◌, ◌++◌, length, refl, ap, sym, ◌∙◌, subst, arith, inl, inr}
 use Rattle.std.specs.Prelude.{Bool, true, Option, Some, None, IfSome, Result, Ok, Err, is_err}
 use Rattle.std.proofs.lemmas.List.{append-nil}
-use Rattle.mse_outside.specs.Outside.{HasRisen, Table}
+use Rattle.mse_outside.specs.Outside.{HasRisen, SinkView, Table}
 use Rattle.bmff_write.specs.Made.{made_bytes}
 use Rattle.mse_calls.specs.declared.entry.Entry.{Entry}
 use Rattle.mse_calls.specs.declared.rules.Rule.{Rule}
@@ -25,12 +25,13 @@ use Rattle.script_run.specs.Follows.{AreLinesBegun, AreLinesDone}
 use Rattle.script_run.specs.Lines.{Limits, limits, play_inputs}
 use Rattle.listeners.specs.Views.{RunView}
 use Rattle.script_run.specs.RunStates.{RunState, printed_run}
-use Rattle.script_run.specs.Text.{lines_of}
+use Rattle.script_run.specs.Text.{lines_in, lines_of}
 use Rattle.script_run.specs.Turns.{HasCallsLeftInLine}
 use Rattle.script_run.specs.Writes.{IsWritten, IsFrontWritten}
 use Rattle.script_run.proofs.CutDispatches.{heard_to_all}
 use Rattle.script_run.proofs.JournalNotes.{heard_none}
-use Rattle.script_run.proofs.PutLines.{front_more, front_none, wrote_more}
+use Rattle.script_run.proofs.PartsInRow.{last_alone}
+use Rattle.script_run.proofs.PutLines.{front_none, wrote_more, wrote_none}
 use Rattle.mse_commands.specs.declared.ending.End.{End}
 use Rattle.mse_commands.specs.declared.ending.End.TheVariants.{Memory, Write, Words, NoFile, Read, Script, CallBudget, TaskBudget}
 use Rattle.mse_commands.specs.declared.words.Command.{Command}
@@ -38,15 +39,15 @@ use Rattle.mse_commands.specs.declared.words.Command.TheVariants.{Ranges, Pieces
 use Rattle.mse_commands.specs.Requests.{IsFileCommand, IsLackOf, IsReadOf, IsTaskOf, HasRequestOfCommand, Request, Task, ByScript, ByFile, ByRemux, blobs_bytes, file_by, file_request, file_task, files_by, files_in, files_of_script, file_bytes, opening_of, remux_request, remux_task, request_of, script_of_file, script_request, script_task}
 use Rattle.mse_commands.specs.Loads.{IsMade, IsReached, IsUnmade, IsLoadEnd, IsScriptEnd, failures}
 use Rattle.mse_commands.specs.Endings.{end_of_halt}
-use Rattle.mse_commands.specs.Outcomes.{IsRun, RunOutcome, IsFrontRun, IsWholeRun, outcome, outside_of}
-use Rattle.mse_commands.specs.Remuxing.{remux_text}
+use Rattle.mse_commands.specs.Outcomes.{IsRun, RunOutcome, IsWholeRun, outcome, outside_of}
+use Rattle.mse_commands.specs.Remuxing.{remux_pieces}
 use Rattle.mse_commands.specs.Shown.{IsWholeFile, file_closing, last_state, pieces_by}
-use Rattle.mse_commands.specs.Works.{IsAppended, IsPartAppended, IsNothingDone, IsSomeDone, IsDoneUpTo, IsFileFrontShown, IsScriptShowResult, IsScriptHalfPlayed, IsScriptPlayed, IsScriptCutShort, IsScriptStopped, IsScriptUnplayed, IsFrontShown, IsFileShowResult, IsRequestDone, IsRequestDoneBy, IsTaskDone, script_inputs}
+use Rattle.mse_commands.specs.Works.{IsAppended, IsFrontRun, IsPartAppended, IsNothingDone, IsSomeDone, IsDoneUpTo, IsFileFrontShown, IsScriptShowResult, IsScriptHalfPlayed, IsScriptPlayed, IsScriptCutShort, IsScriptStopped, IsScriptUnplayed, IsFrontShown, IsFileShowResult, IsRequestDone, IsRequestDoneBy, IsTaskDone, script_inputs}
 use Rattle.mse_commands.proofs.LoadedFiles.{end_as, reached_behind, reached_first, reached_more, script_there}
 
 -- ---- what was not loaded
 
-pub did_nothing : (a b : ℕ) (written : Option (List ℕ)) (notes : List (List Note)) (rules : List (List Rule)) → IsNothingDone (outcome [] None (outside_of a written notes rules) (outside_of b written notes rules))
+pub did_nothing : (a b : ℕ) (written : SinkView) (notes : List (List Note)) (rules : List (List Rule)) → IsNothingDone (outcome [] None (outside_of a written notes rules) (outside_of b written notes rules))
 did_nothing a b written notes rules = record { nothing = record { entries = refl; engine = refl; notes = refl; rules = refl }; wrote = refl }
 
 -- what a library says of an end that tells its files
@@ -62,7 +63,7 @@ IsEndTold request task after (TaskBudget limit) = ⊥
 
 not_loaded_by : (count : ℕ) (request : Request) (task : Result Task End) (after : RunOutcome) (end : End) → IsNothingDone after → IsEndTold request task after end → IsRequestDoneBy count request task after (Err end)
 not_loaded_by count request (Ok t) after Memory n p = inl n
-not_loaded_by count request (Ok t) after (Read name) n p = (n, (record { name = name; rose = p.0; reached = p.1 }, refl))
+not_loaded_by count request (Ok t) after (Read name) n p = (n, (p.0, p.1))
 not_loaded_by count request (Ok t) after (NoFile name) n p = absurd (cc)
 not_loaded_by count request (Ok t) after (Script fault) n p = absurd (cc)
 not_loaded_by count request (Ok t) after Write n p = absurd p
@@ -70,7 +71,7 @@ not_loaded_by count request (Ok t) after Words n p = absurd p
 not_loaded_by count request (Ok t) after (CallBudget k) n p = absurd p
 not_loaded_by count request (Ok t) after (TaskBudget limit) n p = absurd p
 not_loaded_by count request (Err e) after Memory n p = n
-not_loaded_by count request (Err e) after (Read name) n p = (n, (record { name = name; rose = p.0; reached = p.1 }, refl))
+not_loaded_by count request (Err e) after (Read name) n p = (n, (p.0, p.1))
 not_loaded_by count request (Err e) after (NoFile name) n p = (n, cc (p))
 not_loaded_by count request (Err e) after (Script fault) n p = (n, cc (p))
 not_loaded_by count request (Err e) after Write n p = absurd p
@@ -102,7 +103,7 @@ untold_file : {A : Type 0} (count : ℕ) (name : List ℕ) (command : Command) (
     → HasRequestOfCommand None name (Some command) (λ request. IsRequestDone count request after (Err end))
 untold_file count name command after names told Memory lack n p = (no_request [] (NoFile []), lack [], n)
 untold_file count name command after names told (Read other) lack n p =
-    (no_request (other ∷ []) (NoFile []), lack [], (n, (record { name = other; rose = p.0; reached = reached_first (λ x. None) other [] }, refl)))
+    (no_request (other ∷ []) (NoFile []), lack [], (n, (p.0, reached_first (λ x. None) other [])))
 untold_file count name command after names told (NoFile other) lack n p = (no_request [] (NoFile other), lack other, (n, refl))
 untold_file count name command after names told (Script fault) lack n p = absurd p
 untold_file count name command after names told Write lack n p = absurd p
@@ -148,7 +149,7 @@ untold_by count name (Feed at) after names told end f u n p = untold_file count 
 untold_by count name Remux after names told end f u n p = absurd f
 untold_by count name Play after names told end f u n p = absurd f
 
-pub file_not_loaded : (table : Option Table) (a b : ℕ) (name : List ℕ) (command : Command) (end : End) (entries : List Entry) (engine : Option KeptEngine) (written : Option (List ℕ))
+pub file_not_loaded : (table : Option Table) (a b : ℕ) (name : List ℕ) (command : Command) (end : End) (entries : List Entry) (engine : Option KeptEngine) (written : SinkView)
     (count : ℕ) (notes : List (List Note)) (rules : List (List Rule)) → IsFileCommand command → IsUnmade command end → entries ≡ [] → engine ≡ None
     → IsLoadEnd table (failures a b) (files_by name command) (λ files. file_by files name command) end
     → HasRequestOfCommand table name (Some command) (λ request. IsRequestDone count request (outcome entries engine (outside_of a written notes rules) (outside_of b written notes rules)) (Err end))
@@ -176,7 +177,7 @@ file_ran command bytes a b es after stands goes entries engine = record {
 }
 
 -- a front was appended, and nothing written
-file_begun : (count : ℕ) (h : Halt) (command : Command) (bytes : List ℕ) (a b : RunView) (w0 w1 : Option (List ℕ)) (f0 f1 : ℕ) (notes : List (List Note)) (rules : List (List Rule))
+file_begun : (count : ℕ) (h : Halt) (command : Command) (bytes : List ℕ) (a b : RunView) (w0 w1 : SinkView) (f0 f1 : ℕ) (notes : List (List Note)) (rules : List (List Rule))
     → Stands a.engine (opening_of (ByFile command bytes)) → a.entries ≡ [] → IsPartAppended bytes (pieces_by command (length bytes)) a b → w1 ≡ w0
     → IsSomeDone count h (ByFile command bytes) (outcome b.entries (Some b.engine) (outside_of f0 w0 notes rules) (outside_of f1 w1 notes rules))
 file_begun count h command bytes a b w0 w1 f0 f1 notes rules stands fresh p same =
@@ -190,11 +191,11 @@ file_begun count h command bytes a b w0 w1 f0 f1 notes rules stands fresh p same
         rules = refl;
       };
       heard = refl;
-      wrote = inl (rw same (front_none w0 []));
+      wrote = inl same;
     }
 
 -- all was appended, and a front of the text was written
-file_half : (count : ℕ) (h : Halt) (command : Command) (bytes : List ℕ) (a b : RunView) (w0 w1 : Option (List ℕ)) (f0 f1 : ℕ) (notes : List (List Note)) (rules : List (List Rule))
+file_half : (count : ℕ) (h : Halt) (command : Command) (bytes : List ℕ) (a b : RunView) (w0 w1 : SinkView) (f0 f1 : ℕ) (notes : List (List Note)) (rules : List (List Rule))
     → Stands a.engine (opening_of (ByFile command bytes)) → a.entries ≡ [] → IsAppended bytes (pieces_by command (length bytes)) a b
     → IsFrontShown (file_closing command (length bytes)) b w0 w1
     → IsSomeDone count h (ByFile command bytes) (outcome b.entries (Some b.engine) (outside_of f0 w0 notes rules) (outside_of f1 w1 notes rules))
@@ -211,16 +212,16 @@ file_half count h command bytes a b w0 w1 f0 f1 notes rules stands fresh p shown
         rules = refl;
       };
       heard = refl;
-      wrote = rw all (inr (whole, shown (last_state task es) last));
+      wrote = rw all (inr (whole, (refl, refl), record { middle = w0; wrote = wrote_none w0; front = shown (last_state task es) last }));
     }
 
-file_front : (count : ℕ) (h : Halt) (command : Command) (bytes : List ℕ) (a b : RunView) (w0 w1 : Option (List ℕ)) (f0 f1 : ℕ) (notes : List (List Note)) (rules : List (List Rule))
+file_front : (count : ℕ) (h : Halt) (command : Command) (bytes : List ℕ) (a b : RunView) (w0 w1 : SinkView) (f0 f1 : ℕ) (notes : List (List Note)) (rules : List (List Rule))
     → Stands a.engine (opening_of (ByFile command bytes)) → a.entries ≡ [] → IsFileFrontShown command bytes (printed_run a w0) (printed_run b w1)
     → IsSomeDone count h (ByFile command bytes) (outcome b.entries (Some b.engine) (outside_of f0 w0 notes rules) (outside_of f1 w1 notes rules))
 file_front count h command bytes a b w0 w1 f0 f1 notes rules stands fresh (inl p) = file_begun count h command bytes a b w0 w1 f0 f1 notes rules stands fresh p.0 p.1
 file_front count h command bytes a b w0 w1 f0 f1 notes rules stands fresh (inr p) = file_half count h command bytes a b w0 w1 f0 f1 notes rules stands fresh p.0 p.1
 
-pub file_worked : (count : ℕ) (request : Request) (command : Command) (bytes : List ℕ) (a b : RunView) (w0 w1 : Option (List ℕ)) (f0 f1 : ℕ) (notes : List (List Note)) (rules : List (List Rule))
+pub file_worked : (count : ℕ) (request : Request) (command : Command) (bytes : List ℕ) (a b : RunView) (w0 w1 : SinkView) (f0 f1 : ℕ) (notes : List (List Note)) (rules : List (List Rule))
     (result : Result Bool End) → Stands a.engine (opening_of (ByFile command bytes)) → a.entries ≡ [] → IsFileShowResult command bytes (printed_run a w0) (printed_run b w1) result
     → IsTaskDone count request (ByFile command bytes) (outcome b.entries (Some b.engine) (outside_of f0 w0 notes rules) (outside_of f1 w1 notes rules)) result
 file_worked count request command bytes a b w0 w1 f0 f1 notes rules (Ok broken) stands fresh p =
@@ -261,7 +262,7 @@ untold_task (Feed at) bytes f m = refl
 untold_task Remux bytes f m = absurd f
 untold_task Play bytes f m = absurd f
 
-pub file_works : (table : Option Table) (f0 f1 : ℕ) (name bytes : List ℕ) (command : Command) (a b : RunView) (w0 w1 : Option (List ℕ)) (count : ℕ) (notes : List (List Note)) (rules : List (List Rule))
+pub file_works : (table : Option Table) (f0 f1 : ℕ) (name bytes : List ℕ) (command : Command) (a b : RunView) (w0 w1 : SinkView) (count : ℕ) (notes : List (List Note)) (rules : List (List Rule))
     (result : Result Bool End) → IsFileCommand command → IsMade command bytes → IfSome table (λ files. file_by files name command ≡ Ok bytes)
     → Stands a.engine (opening_of (ByFile command bytes)) → a.entries ≡ [] → IsFileShowResult command bytes (printed_run a w0) (printed_run b w1) result
     → HasRequestOfCommand table name (Some command) (λ request. IsRequestDone count request (outcome b.entries (Some b.engine) (outside_of f0 w0 notes rules) (outside_of f1 w1 notes rules)) result)
@@ -284,7 +285,7 @@ remux_fails files name end e = rw e refl
 remux_goes : (files : Table) (name bytes : List ℕ) → file_bytes files name ≡ Ok bytes → remux_task files name ≡ Ok (ByRemux bytes)
 remux_goes files name bytes e = rw e refl
 
-pub remux_not_loaded : (table : Option Table) (a b : ℕ) (name : List ℕ) (end : End) (written : Option (List ℕ)) (count : ℕ) (notes : List (List Note)) (rules : List (List Rule))
+pub remux_not_loaded : (table : Option Table) (a b : ℕ) (name : List ℕ) (end : End) (written : SinkView) (count : ℕ) (notes : List (List Note)) (rules : List (List Rule))
     → IsLoadEnd table (failures a b) (name ∷ []) (λ files. file_bytes files name) end
     → HasRequestOfCommand table name (Some Remux) (λ request. IsRequestDone count request (outcome [] None (outside_of a written notes rules) (outside_of b written notes rules)) (Err end))
 remux_not_loaded None a b name end written count notes rules p =
@@ -299,25 +300,25 @@ remux_not_loaded (Some files) a b name end written count notes rules p =
     )
 
 -- nothing is in the journal, and there is no engine
-remux_ran : (bytes : List ℕ) (a b : ℕ) (w0 w1 : Option (List ℕ)) (notes : List (List Note)) (rules : List (List Rule)) → IsRun (ByRemux bytes) (outcome [] None (outside_of a w0 notes rules) (outside_of b w1 notes rules))
+remux_ran : (bytes : List ℕ) (a b : ℕ) (w0 w1 : SinkView) (notes : List (List Note)) (rules : List (List Rule)) → IsRun (ByRemux bytes) (outcome [] None (outside_of a w0 notes rules) (outside_of b w1 notes rules))
 remux_ran bytes a b w0 w1 notes rules = record { replays = tt; sound = tt; engine = refl }
 
-remux_whole : (count : ℕ) (request : Request) (bytes : List ℕ) (a b : ℕ) (w0 w1 : Option (List ℕ)) (notes : List (List Note)) (rules : List (List Rule)) (broken : Bool)
-    → IsWritten (remux_text bytes) w0 w1 → broken ≡ is_err (pieces_of_file bytes) → IsTaskDone count request (ByRemux bytes) (outcome [] None (outside_of a w0 notes rules) (outside_of b w1 notes rules)) (Ok broken)
+remux_whole : (count : ℕ) (request : Request) (bytes : List ℕ) (a b : ℕ) (w0 w1 : SinkView) (notes : List (List Note)) (rules : List (List Rule)) (broken : Bool)
+    → IsWritten (remux_pieces bytes) w0 w1 → broken ≡ is_err (pieces_of_file bytes) → IsTaskDone count request (ByRemux bytes) (outcome [] None (outside_of a w0 notes rules) (outside_of b w1 notes rules)) (Ok broken)
 remux_whole count request bytes a b w0 w1 notes rules broken wrote is = record {
   ran = record { run = remux_ran bytes a b w0 w1 notes rules; all = refl; wrote = wrote; heard = (refl, refl) };
   broken_is = is;
 }
 
-remux_some : (count : ℕ) (h : Halt) (bytes : List ℕ) (a b : ℕ) (w0 w1 : Option (List ℕ)) (notes : List (List Note)) (rules : List (List Rule)) → IsFrontWritten (remux_text bytes) w0 w1
+remux_some : (count : ℕ) (h : Halt) (bytes : List ℕ) (a b : ℕ) (w0 w1 : SinkView) (notes : List (List Note)) (rules : List (List Rule)) → IsFrontWritten (remux_pieces bytes) w0 w1
     → IsSomeDone count h (ByRemux bytes) (outcome [] None (outside_of a w0 notes rules) (outside_of b w1 notes rules))
 remux_some count h bytes a b w0 w1 notes rules wrote = record {
   ran = record { run = remux_ran bytes a b w0 w1 notes rules; front = refl; rules = refl };
   heard = refl;
-  wrote = inr (refl, wrote);
+  wrote = inr (refl, (refl, refl), record { middle = w0; wrote = wrote_none w0; front = wrote });
 }
 
-remux_half : (count : ℕ) (request : Request) (h : Halt) (bytes : List ℕ) (a b : ℕ) (w0 w1 : Option (List ℕ)) (notes : List (List Note)) (rules : List (List Rule)) → IsFrontWritten (remux_text bytes) w0 w1
+remux_half : (count : ℕ) (request : Request) (h : Halt) (bytes : List ℕ) (a b : ℕ) (w0 w1 : SinkView) (notes : List (List Note)) (rules : List (List Rule)) → IsFrontWritten (remux_pieces bytes) w0 w1
     → IsTaskDone count request (ByRemux bytes) (outcome [] None (outside_of a w0 notes rules) (outside_of b w1 notes rules)) (Err (end_of_halt h))
 remux_half count request halt.Memory bytes a b w0 w1 notes rules wrote = inr (remux_some count halt.Memory bytes a b w0 w1 notes rules wrote)
 remux_half count request halt.Write bytes a b w0 w1 notes rules wrote = remux_some count halt.Write bytes a b w0 w1 notes rules wrote
@@ -332,14 +333,14 @@ remux_asked (Some files) name bytes count after result is p =
     let request : Request = remux_request files name in
     (request, refl, works_on count request (ByRemux bytes) after result (remux_goes files name bytes is) (p request))
 
-pub remux_works : (table : Option Table) (a b : ℕ) (name bytes : List ℕ) (w0 w1 : Option (List ℕ)) (count : ℕ) (notes : List (List Note)) (rules : List (List Rule)) (broken : Bool)
-    → IfSome table (λ files. file_bytes files name ≡ Ok bytes) → IsWritten (remux_text bytes) w0 w1 → broken ≡ is_err (pieces_of_file bytes)
+pub remux_works : (table : Option Table) (a b : ℕ) (name bytes : List ℕ) (w0 w1 : SinkView) (count : ℕ) (notes : List (List Note)) (rules : List (List Rule)) (broken : Bool)
+    → IfSome table (λ files. file_bytes files name ≡ Ok bytes) → IsWritten (remux_pieces bytes) w0 w1 → broken ≡ is_err (pieces_of_file bytes)
     → HasRequestOfCommand table name (Some Remux) (λ request. IsRequestDone count request (outcome [] None (outside_of a w0 notes rules) (outside_of b w1 notes rules)) (Ok broken))
 remux_works table a b name bytes w0 w1 count notes rules broken is wrote broken_is =
     remux_asked table name bytes count (outcome [] None (outside_of a w0 notes rules) (outside_of b w1 notes rules)) (Ok broken) is (λ request. remux_whole count request bytes a b w0 w1 notes rules broken wrote broken_is)
 
-pub remux_stops : (table : Option Table) (a b : ℕ) (name bytes : List ℕ) (w0 w1 : Option (List ℕ)) (count : ℕ) (notes : List (List Note)) (rules : List (List Rule)) (h : Halt)
-    → IfSome table (λ files. file_bytes files name ≡ Ok bytes) → IsFrontWritten (remux_text bytes) w0 w1
+pub remux_stops : (table : Option Table) (a b : ℕ) (name bytes : List ℕ) (w0 w1 : SinkView) (count : ℕ) (notes : List (List Note)) (rules : List (List Rule)) (h : Halt)
+    → IfSome table (λ files. file_bytes files name ≡ Ok bytes) → IsFrontWritten (remux_pieces bytes) w0 w1
     → HasRequestOfCommand table name (Some Remux) (λ request. IsRequestDone count request (outcome [] None (outside_of a w0 notes rules) (outside_of b w1 notes rules)) (Err (end_of_halt h)))
 remux_stops table a b name bytes w0 w1 count notes rules h is wrote =
     remux_asked table name bytes count (outcome [] None (outside_of a w0 notes rules) (outside_of b w1 notes rules)) (Err (end_of_halt h)) is (λ request. remux_half count request h bytes a b w0 w1 notes rules wrote)
@@ -363,7 +364,7 @@ told_script files name after Words p = absurd p
 told_script files name after (CallBudget k) p = absurd p
 told_script files name after (TaskBudget limit) p = absurd p
 
-pub script_not_loaded : (table : Option Table) (a b : ℕ) (name : List ℕ) (end : End) (entries : List Entry) (engine : Option KeptEngine) (written : Option (List ℕ))
+pub script_not_loaded : (table : Option Table) (a b : ℕ) (name : List ℕ) (end : End) (entries : List Entry) (engine : Option KeptEngine) (written : SinkView)
     (count : ℕ) (notes : List (List Note)) (rules : List (List Rule)) → entries ≡ [] → engine ≡ None → IsScriptEnd table (failures a b) name end
     → HasRequestOfCommand table name (Some Play) (λ request. IsRequestDone count request (outcome entries engine (outside_of a written notes rules) (outside_of b written notes rules)) (Err end))
 script_not_loaded None a b name end entries engine written count notes rules none nothing p =
@@ -377,7 +378,7 @@ script_not_loaded (Some files) a b name end entries engine written count notes r
           (told_script files name after end p),
     )
 
-pub blobs_not_loaded : (table : Option Table) (a b c : ℕ) (name : List ℕ) (script : CallScript) (end : End) (entries : List Entry) (engine : Option KeptEngine) (written : Option (List ℕ))
+pub blobs_not_loaded : (table : Option Table) (a b c : ℕ) (name : List ℕ) (script : CallScript) (end : End) (entries : List Entry) (engine : Option KeptEngine) (written : SinkView)
     (count : ℕ) (notes : List (List Note)) (rules : List (List Rule)) → entries ≡ [] → engine ≡ None → a ≤ b → IfSome table (λ files. script_of_file files name ≡ Ok script)
     → IsLoadEnd table (failures b c) (files_in script.blobs) (λ files. blobs_bytes files script.blobs) end
     → HasRequestOfCommand table name (Some Play) (λ request. IsRequestDone count request (outcome entries engine (outside_of a written notes rules) (outside_of c written notes rules)) (Err end))
@@ -437,7 +438,7 @@ module _ (count : ℕ) (request : Request) (script : CallScript) (blobs : List (
       record {
         run = script_ran script blobs a.run.engine b.run.engine es (outcome b.run.entries (Some b.run.engine) (outside_of f0 a.written a.notes r0) (outside_of f1 b.written b.notes r1)) stands p.played.grew.goes all refl;
         all = rw all (p.played.grew.holds (opening_of (ByScript script blobs)) stands);
-        wrote = rw all (wrote_more (lines_of es) (closing_text (view_in (last_state (ByScript script blobs) es)) true) a.written p.middle b.written p.played.wrote (p.shown.wrote (last_state (ByScript script blobs) es) last));
+        wrote = rw all (wrote_more (lines_of es) (lines_in (closing_text (view_in (last_state (ByScript script blobs) es)) true)) a.written p.middle b.written p.played.wrote (p.shown.wrote (last_state (ByScript script blobs) es) last));
         heard = (p.rules_are, rw all p.played.heard);
       }
 
@@ -453,7 +454,7 @@ module _ (count : ℕ) (request : Request) (script : CallScript) (blobs : List (
           rules = inr p.rules_are;
         };
         heard = rw all (heard_to_all (HasCallsLeftInLine script.drain) h es a.notes b.notes p.played.heard);
-        wrote = rw all (inr (p.played.grew.holds (opening_of (ByScript script blobs)) stands, front_more (lines_of es) (closing_text (view_in (last_state (ByScript script blobs) es)) true) a.written p.middle b.written p.played.wrote (p.shown (last_state (ByScript script blobs) es) last)));
+        wrote = rw all (inr (p.played.grew.holds (opening_of (ByScript script blobs)) stands, (p.rules_are, p.played.heard), record { middle = p.middle; wrote = p.played.wrote; front = p.shown (last_state (ByScript script blobs) es) last }));
       }
 
   -- it stopped in a line
@@ -491,7 +492,7 @@ module _ (count : ℕ) (request : Request) (script : CallScript) (blobs : List (
           rules = inl all;
         };
         heard = rw (all, p.notes) (heard_to_all (HasCallsLeftInLine script.drain) h [] a.notes a.notes (heard_none a.notes));
-        wrote = inl (rw p.written (front_none a.written _));
+        wrote = inl (rw (all, p.written) (last_alone [] a.written a.written tt (front_none a.written [])));
       }
 
   script_short : (h : Halt) → IsScriptCutShort (script_inputs count script blobs) r1 a b h

@@ -1,58 +1,55 @@
 -- What is said of how a run ended.
-use Rattle.std.proofs.Common.{◌≡◌, ◌≢◌, ◌≤◌, ℕ, List, refl, ap, sym, ◌∙◌, subst, arith, inl, inr}
+use Rattle.std.proofs.Common.{◌≡◌, ◌≢◌, ◌≤◌, ℕ, List, [], ◌∷◌, refl, ap, sym, ◌∙◌, subst, arith, inl, inr}
 use Rattle.std.specs.Prelude.{Bool, true, false, is_some, Option, Some, None, IsSome, Result, Ok, Err, ◌⊎◌}
-use Rattle.mse_outside.specs.Outside.{HasRisen, Table}
+use Rattle.mse_outside.specs.Outside.{HasRisen, SinkView, Table}
 use Rattle.mse_calls.specs.declared.entry.Entry.{Entry}
 use Rattle.mse_calls.specs.declared.views.FaultView.{FaultView}
 use Rattle.script_run.specs.declared.stop.Halt.{Halt}
 use Rattle.script_run.specs.declared.stop.Halt.TheVariants as halt
-use Rattle.script_run.specs.declared.stop.Stop.TheVariants as stop
-use Rattle.script_run.specs.Turns.{HasCallsLeftInLine}
-use Rattle.script_run.specs.Writes.{IsWritten, IsFrontWritten}
-use Rattle.script_run.proofs.CutDispatches.{heard_to_limit}
-use Rattle.script_run.proofs.PutLines.{front_more, wrote_more}
+use Rattle.script_run.specs.Writes.{IsWritten}
+use Rattle.script_run.proofs.PutLines.{wrote_more, wrote_none}
 use Rattle.mse_commands.specs.declared.ending.End.{End}
 use Rattle.mse_commands.specs.declared.ending.End.TheVariants.{Memory, Write, Words, NoFile, Read, Script, CallBudget, TaskBudget}
 use Rattle.mse_commands.specs.declared.ending.Status.{Status}
 use Rattle.mse_commands.specs.declared.ending.Status.TheVariants as status
 use Rattle.mse_commands.specs.Requests.{HasRequestOfWords, Request, Task, ByScript, ByFile, ByRemux}
-use Rattle.mse_commands.specs.Endings.{error_line, status_of}
-use Rattle.mse_commands.specs.Outcomes.{IsEndOfRun, IsEndByTask, IsEndedWithCause, IsEndedByRead, IsEndOfTask, IsEndedShort, IsEndWithoutTask, HasFailedRead, HasCause, AreRulesOfTask, IsBroken, IsHeardTo, RunOutcome, IsFrontRun, IsNothingRun, IsSaid, IsFrontSaid, IsSomeSaid, IsTextWritten}
+use Rattle.mse_commands.specs.Complete.{IsRunToEnd}
+use Rattle.mse_commands.specs.Endings.{end_of_halt, error_line, status_of}
+use Rattle.mse_commands.specs.Files.{IsThrough}
+use Rattle.mse_commands.specs.Outcomes.{IsEndOfRun, IsEnding, Ending, Whole, OverLimit, CutShort, Refused, Unbegun, IsAllPrinted, IsFrontPrinted, IsHeardBy, IsPrintedBy, IsRefusal, HasCause, AreRulesOfTask, IsBroken, RunOutcome, IsRun, IsNothingRun, IsWholeRun}
 use Rattle.mse_commands.specs.Loads.{IsEndOfFailedLoad}
 use Rattle.mse_commands.specs.Says.{IsEndSaid, IsLineSaid}
 use Rattle.mse_commands.specs.Shown.{last_state, shown_lines}
-use Rattle.mse_commands.specs.Works.{IsNothingDone, IsSomeDone, IsDoneUpTo, IsRequestDone, IsRequestDoneBy, IsTaskMissing, is_broken_in}
+use Rattle.mse_commands.specs.Works.{IsNothingDone, IsSomeDone, IsDoneUpTo, IsRequestDone, IsRequestDoneBy, IsTaskDone, IsTaskMissing, is_broken_in}
 use Rattle.mse_commands.proofs.LoadedFiles.{rose_within}
 
 -- ---- the same when more was written
 
-abbrev pub with_written : RunOutcome → Option (List ℕ) → RunOutcome
+abbrev pub with_written : RunOutcome → SinkView → RunOutcome
 with_written left new = record left { now = record left.now { written = new } }
 
-nothing_again : (left : RunOutcome) (new : Option (List ℕ)) → IsNothingRun left → IsNothingRun (with_written left new)
+nothing_again : (left : RunOutcome) (new : SinkView) → IsNothingRun left → IsNothingRun (with_written left new)
 nothing_again left new p = record { entries = p.entries; engine = p.engine; notes = p.notes; rules = p.rules }
 
-abbrev failed_again : (request : Request) (left : RunOutcome) (new : Option (List ℕ)) → HasFailedRead request left → HasFailedRead request (with_written left new)
-failed_again request left new p = record { name = p.name; rose = p.rose; reached = p.reached }
+refusal_again : (request : Request) (left : RunOutcome) (end : End) (new : SinkView) → IsRefusal request left end → IsRefusal request (with_written left new) end
+refusal_again request left (Read name) new p = p
+refusal_again request left Memory new p = p
+refusal_again request left Write new p = p
+refusal_again request left Words new p = p
+refusal_again request left (NoFile name) new p = p
+refusal_again request left (Script fault) new p = p
+refusal_again request left (CallBudget k) new p = p
+refusal_again request left (TaskBudget limit) new p = p
 
-rules_again : (task : Task) (left : RunOutcome) (new : Option (List ℕ)) → AreRulesOfTask task left → AreRulesOfTask task (with_written left new)
+rules_again : (task : Task) (left : RunOutcome) (new : SinkView) → AreRulesOfTask task left → AreRulesOfTask task (with_written left new)
 rules_again (ByScript script blobs) left new p = p
 rules_again (ByFile command bytes) left new p = p
 rules_again (ByRemux bytes) left new p = p
 
-heard_again : (task : Task) (h : Halt) (left : RunOutcome) (new : Option (List ℕ)) → IsHeardTo task h left → IsHeardTo task h (with_written left new)
-heard_again (ByScript script blobs) h left new p = p
-heard_again (ByFile command bytes) h left new p = p
-heard_again (ByRemux bytes) h left new p = p
+run_again : (task : Task) (left : RunOutcome) (new : SinkView) → IsRun task left → IsRun task (with_written left new)
+run_again task left new p = record { replays = p.replays; sound = p.sound; engine = p.engine }
 
-front_again : (count : ℕ) (task : Task) (left : RunOutcome) (new : Option (List ℕ)) → IsFrontRun count task left → IsFrontRun count task (with_written left new)
-front_again count task left new p = record {
-  run = record { replays = p.run.replays; sound = p.run.sound; engine = p.run.engine };
-  front = p.front;
-  rules = rules_again task left new p.rules;
-}
-
-cause_again : (task : Task) (left : RunOutcome) (end : End) (new : Option (List ℕ)) → HasCause task left end → HasCause task (with_written left new) end
+cause_again : (task : Task) (left : RunOutcome) (end : End) (new : SinkView) → HasCause task left end → HasCause task (with_written left new) end
 cause_again (ByScript script blobs) left (CallBudget k) new p = p
 cause_again (ByScript script blobs) left (TaskBudget limit) new p = p
 cause_again (ByScript script blobs) left Memory new p = absurd p
@@ -63,19 +60,6 @@ cause_again (ByScript script blobs) left (Read name) new p = absurd p
 cause_again (ByScript script blobs) left (Script fault) new p = absurd p
 cause_again (ByFile command bytes) left end new p = absurd p
 cause_again (ByRemux bytes) left end new p = absurd p
-
--- what was heard where a limit was passed, and then memory or the sink was wanting
-cause_heard : (task : Task) (h : Halt) (left : RunOutcome) (end : End) → HasCause task left end → IsHeardTo task h left
-cause_heard (ByScript script blobs) h left (CallBudget k) p = heard_to_limit (HasCallsLeftInLine script.drain) (stop.CallBudget k) h left.entries left.before.notes left.now.notes p
-cause_heard (ByScript script blobs) h left (TaskBudget limit) p = heard_to_limit (HasCallsLeftInLine script.drain) stop.TaskBudget h left.entries left.before.notes left.now.notes p.1
-cause_heard (ByScript script blobs) h left Memory p = absurd p
-cause_heard (ByScript script blobs) h left Write p = absurd p
-cause_heard (ByScript script blobs) h left Words p = absurd p
-cause_heard (ByScript script blobs) h left (NoFile name) p = absurd p
-cause_heard (ByScript script blobs) h left (Read name) p = absurd p
-cause_heard (ByScript script blobs) h left (Script fault) p = absurd p
-cause_heard (ByFile command bytes) h left end p = absurd p
-cause_heard (ByRemux bytes) h left end p = absurd p
 
 -- ---- without an error line
 
@@ -97,135 +81,190 @@ broken_by (ByScript script blobs) entries e = absurd (cc)
 broken_by (ByFile command bytes) entries e = some_true (last_state (ByFile command bytes) entries).source.fault e
 broken_by (ByRemux bytes) entries e = sym e
 
-pub ends_whole : (count : ℕ) (request : Request) (task : Result Task End) (left : RunOutcome) → IsRequestDoneBy count request task left (Ok false) → IsEndByTask count request task left status.Ok
-ends_whole count request (Ok task) left p = (p.ran, not_broken task left.entries p.broken_is)
-ends_whole count request (Err end) left p = absurd p
+-- all of it was run
+ended_whole : (count : ℕ) (request : Request) (task : Task) (left : RunOutcome) → request.task ≡ Ok task → IsWholeRun count task left → ¬ IsBroken task left.entries → IsEndOfRun count request left status.Ok
+ended_whole count request task left is p sound = record { ending = Whole task; follows = (is, p.run, p.all); heard = p.heard; printed = record { status_is = inl (refl, sound); wrote = p.wrote } }
 
-pub ends_broken : (count : ℕ) (request : Request) (task : Result Task End) (left : RunOutcome) → IsRequestDoneBy count request task left (Ok true) → IsEndByTask count request task left status.Media
-ends_broken count request (Ok task) left p = (p.ran, broken_by task left.entries p.broken_is)
-ends_broken count request (Err end) left p = absurd p
+ended_broken : (count : ℕ) (request : Request) (task : Task) (left : RunOutcome) → request.task ≡ Ok task → IsWholeRun count task left → IsBroken task left.entries → IsEndOfRun count request left status.Media
+ended_broken count request task left is p broken = record { ending = Whole task; follows = (is, p.run, p.all); heard = p.heard; printed = record { status_is = inr (refl, broken); wrote = p.wrote } }
 
--- ---- with one
+pub ends_whole : (count : ℕ) (request : Request) (task : Result Task End) (left : RunOutcome) → request.task ≡ task → IsRequestDoneBy count request task left (Ok false) → IsEndOfRun count request left status.Ok
+ends_whole count request (Ok task) left is p = ended_whole count request task left is p.ran (not_broken task left.entries p.broken_is)
+ends_whole count request (Err end) left is p = absurd p
 
-read_said : (request : Request) (left : RunOutcome) (name : List ℕ) (new : Option (List ℕ)) → IsNothingDone left → (cause : HasFailedRead request left) → cause.name ≡ name → IsWritten (error_line (Read name)) left.now.written new
-    → IsEndedByRead request (with_written left new)
-read_said request left name new n cause is p = record {
-  nothing = nothing_again left new n.nothing;
-  cause = failed_again request left new cause;
-  wrote = subst (λ (t : Option (List ℕ)). IsWritten (error_line (Read cause.name)) t new) n.wrote (subst (λ (x : List ℕ). IsWritten (error_line (Read x)) left.now.written new) (sym is) p);
-}
+pub ends_broken : (count : ℕ) (request : Request) (task : Result Task End) (left : RunOutcome) → request.task ≡ task → IsRequestDoneBy count request task left (Ok true) → IsEndOfRun count request left status.Media
+ends_broken count request (Ok task) left is p = ended_broken count request task left is p.ran (broken_by task left.entries p.broken_is)
+ends_broken count request (Err end) left is p = absurd p
 
-read_half : (request : Request) (left : RunOutcome) (name : List ℕ) (new : Option (List ℕ)) → IsNothingDone left → (cause : HasFailedRead request left) → cause.name ≡ name
-    → IsFrontWritten (error_line (Read name)) left.now.written new → IsSomeSaid request (with_written left new)
-read_half request left name new n cause is p = record {
-  nothing = nothing_again left new n.nothing;
-  wrote = inr (failed_again request left new cause, subst (λ (t : Option (List ℕ)). IsFrontWritten (error_line (Read cause.name)) t new) n.wrote (subst (λ (x : List ℕ). IsFrontWritten (error_line (Read x)) left.now.written new) (sym is) p));
-}
+-- ---- where memory or the sink was wanting
 
-said_none : (request : Request) (left : RunOutcome) (new : Option (List ℕ)) → IsNothingDone left → new ≡ left.now.written → IsSomeSaid request (with_written left new)
-said_none request left new n same = record { nothing = nothing_again left new n.nothing; wrote = inl (same ∙ n.wrote) }
+ended_short : (count : ℕ) (request : Request) (left : RunOutcome) (ending : Ending) (s : Status) → (s ≡ status.Write) ⊎ (s ≡ status.Memory) → IsEnding count request left ending
+    → ((h : Halt) → IsHeardBy ending (status_of (end_of_halt h)) left) → IsFrontPrinted ending left → IsEndOfRun count request left s
+ended_short count request left ending s (inl e) follows heard wrote = rw e (record { ending = ending; follows = follows; heard = heard halt.Write; printed = wrote })
+ended_short count request left ending s (inr e) follows heard wrote = rw e (record { ending = ending; follows = follows; heard = heard halt.Memory; printed = wrote })
 
-some_said : (count : ℕ) (h : Halt) (request : Request) (task : Task) (left : RunOutcome) (new : Option (List ℕ)) → IsSomeDone count h task left → new ≡ left.now.written
-    → IsEndedShort count h request task (with_written left new)
-some_said count h request task left new d same = inl (record {
-  ran = front_again count task left new d.ran;
-  heard = heard_again task h left new d.heard;
-  wrote = inl (subst (λ (t : Option (List ℕ)). IsTextWritten count task (with_written left t)) (sym same) d.wrote);
-})
+-- nothing was run, and nothing was written
+unbegun : (count : ℕ) (request : Request) (left : RunOutcome) (new : SinkView) (h : Halt) → IsNothingDone left → new ≡ left.now.written → IsEndOfRun count request (with_written left new) (status_of (end_of_halt h))
+unbegun count request left new halt.Write n same = ended_short count request (with_written left new) Unbegun status.Write (inl refl) (nothing_again left new n.nothing) (λ h. tt) (same ∙ n.wrote)
+unbegun count request left new halt.Memory n same = ended_short count request (with_written left new) Unbegun status.Memory (inr refl) (nothing_again left new n.nothing) (λ h. tt) (same ∙ n.wrote)
 
--- the cause of a budget is said behind the lines
-cause_said : (count : ℕ) (task : Task) (left : RunOutcome) (end : End) (new : Option (List ℕ)) → IsDoneUpTo count task left end → IsWritten (error_line end) left.now.written new → IsEndedWithCause count task (with_written left new) end
-cause_said count task left end new d p = record {
-  ran = front_again count task left new d.ran;
-  cause = cause_again task left end new d.cause;
-  wrote = wrote_more (shown_lines task left.entries) (error_line end) left.before.written left.now.written new d.wrote p;
-}
+-- a front was run
+some_ended : (count : ℕ) (request : Request) (task : Task) (left : RunOutcome) (h : Halt) → request.task ≡ Ok task → IsSomeDone count h task left → IsEndOfRun count request left (status_of (end_of_halt h))
+some_ended count request task left halt.Write is d =
+    elim d.wrote [
+      | inl p ↦ record { ending = CutShort task; follows = (is, d.ran.run, d.ran.front); heard = (d.ran.rules, d.heard); printed = p }
+      | inr p ↦ record { ending = Whole task; follows = (is, d.ran.run, p.0); heard = p.1; printed = p.2 }
+    ]
+some_ended count request task left halt.Memory is d =
+    elim d.wrote [
+      | inl p ↦ record { ending = CutShort task; follows = (is, d.ran.run, d.ran.front); heard = (d.ran.rules, d.heard); printed = p }
+      | inr p ↦ record { ending = Whole task; follows = (is, d.ran.run, p.0); heard = p.1; printed = p.2 }
+    ]
 
-cause_half : (count : ℕ) (h : Halt) (request : Request) (task : Task) (left : RunOutcome) (end : End) (new : Option (List ℕ)) → IsDoneUpTo count task left end → IsFrontWritten (error_line end) left.now.written new
-    → IsEndedShort count h request task (with_written left new)
-cause_half count h request task left end new d p = inl (record {
-  ran = front_again count task left new d.ran;
-  heard = heard_again task h left new (cause_heard task h left end d.cause);
-  wrote = inr (end, cause_again task left end new d.cause, front_more (shown_lines task left.entries) (error_line end) left.before.written left.now.written new d.wrote p);
-})
+some_said : (count : ℕ) (request : Request) (task : Task) (left : RunOutcome) (new : SinkView) (h : Halt) → request.task ≡ Ok task → IsSomeDone count h task left → new ≡ left.now.written
+    → IsEndOfRun count request (with_written left new) (status_of (end_of_halt h))
+some_said count request task left new h is d same =
+    subst (λ (t : SinkView). IsEndOfRun count request (with_written left t) (status_of (end_of_halt h))) (sym same) (some_ended count request task left h is d)
 
-short_by : (count : ℕ) (request : Request) (task : Task) (left : RunOutcome) (s : Status) → (s ≡ status.Write) ⊎ (s ≡ status.Memory) → ((h : Halt) → IsEndedShort count h request task left)
-    → IsEndOfTask count request task left s
-short_by count request task left s (inl e) p = rw e (p halt.Write)
-short_by count request task left s (inr e) p = rw e (p halt.Memory)
+-- ---- behind a line that says why
 
-pub ends_run : (count : ℕ) (request : Request) (task : Task) (left : RunOutcome) (end : End) (new : Option (List ℕ)) (s : Status) → IsRequestDoneBy count request (Ok task) left (Err end) → IsEndSaid end left.now.written new s
-    → IsEndOfTask count request task (with_written left new) s
-ends_run count request task left Memory new s (inl n) p = rw p.0 (inr (said_none request left new n p.1))
-ends_run count request task left Memory new s (inr d) p = rw p.0 (some_said count halt.Memory request task left new d p.1)
-ends_run count request task left Write new s d p = rw p.0 (some_said count halt.Write request task left new d p.1)
-ends_run count request task left (Read name) new s w (inl p) = rw p.status_is (read_said request left name new w.0 w.1.0 w.1.1 p.wrote)
-ends_run count request task left (Read name) new s w (inr p) = short_by count request task (with_written left new) s p.wanting (λ h. inr (read_half request left name new w.0 w.1.0 w.1.1 p.wrote))
-ends_run count request task left (CallBudget k) new s d (inl p) = rw p.status_is (k, cause_said count task left (CallBudget k) new d p.wrote)
-ends_run count request task left (CallBudget k) new s d (inr p) = short_by count request task (with_written left new) s p.wanting (λ h. cause_half count h request task left (CallBudget k) new d p.wrote)
-ends_run count request task left (TaskBudget limit) new s d (inl p) = rw p.status_is (limit, cause_said count task left (TaskBudget limit) new d p.wrote)
-ends_run count request task left (TaskBudget limit) new s d (inr p) = short_by count request task (with_written left new) s p.wanting (λ h. cause_half count h request task left (TaskBudget limit) new d p.wrote)
-ends_run count request task left Words new s w p = absurd w
-ends_run count request task left (NoFile name) new s w p = absurd w
-ends_run count request task left (Script fault) new s w p = absurd w
+-- an end that has a line
+abbrev HasLine : End → Type 0
+HasLine Memory = ⊥
+HasLine Write = ⊥
+HasLine other = Unit {0}
+
+printed_by : (end : End) (ending : Ending) (left : RunOutcome) → HasLine end → IsAllPrinted ending (status_of end) left → IsPrintedBy (status_of end) ending left
+printed_by Memory ending left l p = absurd l
+printed_by Write ending left l p = absurd l
+printed_by Words ending left l p = p
+printed_by (NoFile name) ending left l p = p
+printed_by (Read name) ending left l p = p
+printed_by (Script fault) ending left l p = p
+printed_by (CallBudget k) ending left l p = p
+printed_by (TaskBudget limit) ending left l p = p
+
+-- nothing was run, for this end
+refused : (count : ℕ) (request : Request) (left : RunOutcome) (end : End) (new : SinkView) (s : Status) → HasLine end → IsNothingDone left → IsRefusal request left end → IsLineSaid end left.now.written new s
+    → IsEndOfRun count request (with_written left new) s
+refused count request left end new s line n why (inl p) =
+    rw p.status_is (record {
+      ending = Refused end;
+      follows = (nothing_again left new n.nothing, refusal_again request left end new why);
+      heard = tt;
+      printed = printed_by end (Refused end) (with_written left new) line (record { status_is = refl; wrote = subst (λ (t : SinkView). IsWritten (error_line end ∷ []) t new) n.wrote p.wrote });
+    })
+refused count request left end new s line n why (inr p) =
+    ended_short count request (with_written left new) (Refused end) s p.wanting (nothing_again left new n.nothing, refusal_again request left end new why) (λ h. tt)
+    (record { middle = left.now.written; wrote = subst (λ (t : SinkView). IsWritten [] left.before.written t) (sym n.wrote) (wrote_none left.before.written); front = p.wrote })
+
+-- a front was run, up to a limit of calls
+over_limit : (count : ℕ) (request : Request) (task : Task) (left : RunOutcome) (end : End) (new : SinkView) (s : Status) → HasLine end → request.task ≡ Ok task → IsDoneUpTo count task left end
+    → IsLineSaid end left.now.written new s → IsEndOfRun count request (with_written left new) s
+over_limit count request task left end new s line is d (inl p) =
+    let after : RunOutcome = with_written left new in
+    let rules : AreRulesOfTask task after = rules_again task left new d.ran.rules in
+    let cause : HasCause task after end = cause_again task left end new d.cause in
+    rw p.status_is (record {
+      ending = OverLimit task end;
+      follows = (is, run_again task left new d.ran.run, d.ran.front, cause);
+      heard = rules;
+      printed =
+          printed_by end (OverLimit task end) after line
+          (record { status_is = refl; wrote = wrote_more (shown_lines task left.entries) (error_line end ∷ []) left.before.written left.now.written new d.wrote p.wrote });
+    })
+over_limit count request task left end new s line is d (inr p) =
+    let after : RunOutcome = with_written left new in
+    let rules : AreRulesOfTask task after = rules_again task left new d.ran.rules in
+    ended_short count request after (OverLimit task end) s p.wanting (is, run_again task left new d.ran.run, d.ran.front, cause_again task left end new d.cause)
+    (λ h. rules)
+    (record { middle = left.now.written; wrote = d.wrote; front = p.wrote })
+
+pub ends_run : (count : ℕ) (request : Request) (task : Task) (left : RunOutcome) (end : End) (new : SinkView) (s : Status) → request.task ≡ Ok task → IsTaskDone count request task left (Err end) → IsEndSaid end left.now.written new s
+    → IsEndOfRun count request (with_written left new) s
+ends_run count request task left Memory new s is (inl n) p = rw p.0 (unbegun count request left new halt.Memory n p.1)
+ends_run count request task left Memory new s is (inr d) p = rw p.0 (some_said count request task left new halt.Memory is d p.1)
+ends_run count request task left Write new s is d p = rw p.0 (some_said count request task left new halt.Write is d p.1)
+ends_run count request task left (Read name) new s is w p = refused count request left (Read name) new s tt w.0 w.1 p
+ends_run count request task left (CallBudget k) new s is d p = over_limit count request task left (CallBudget k) new s tt is d p
+ends_run count request task left (TaskBudget limit) new s is d p = over_limit count request task left (TaskBudget limit) new s tt is d p
+ends_run count request task left Words new s is w p = absurd w
+ends_run count request task left (NoFile name) new s is w p = absurd w
+ends_run count request task left (Script fault) new s is w p = absurd w
 
 -- ---- where there was nothing to run
 
-line_said : (end found : End) (left : RunOutcome) (new : Option (List ℕ)) → IsNothingDone left → found ≡ end → IsWritten (error_line found) left.now.written new → IsSaid end (with_written left new)
-line_said end found left new n is p = record {
-  nothing = nothing_again left new n.nothing;
-  wrote = subst (λ (t : Option (List ℕ)). IsWritten (error_line end) t new) n.wrote (subst (λ (x : End). IsWritten (error_line x) left.now.written new) is p);
-}
+lacking : (request : Request) (end found : End) → request.task ≡ Err end → found ≡ end → request.task ≡ Err found
+lacking request end found is e = is ∙ ap (λ (x : End). Err x) (sym e)
 
-line_half : (end found : End) (left : RunOutcome) (new : Option (List ℕ)) → IsNothingDone left → found ≡ end → IsFrontWritten (error_line found) left.now.written new → IsFrontSaid end (with_written left new)
-line_half end found left new n is p = record {
-  nothing = nothing_again left new n.nothing;
-  wrote = subst (λ (t : Option (List ℕ)). IsFrontWritten (error_line end) t new) n.wrote (subst (λ (x : End). IsFrontWritten (error_line x) left.now.written new) is p);
-}
+pub ends_not : (count : ℕ) (request : Request) (end found : End) (left : RunOutcome) (new : SinkView) (s : Status) → request.task ≡ Err end → IsTaskMissing request end left (Err found)
+    → IsEndSaid found left.now.written new s → IsEndOfRun count request (with_written left new) s
+ends_not count request end Memory left new s is n p = rw p.0 (unbegun count request left new halt.Memory n p.1)
+ends_not count request end Write left new s is w p = rw p.0 (unbegun count request left new halt.Write w.0 p.1)
+ends_not count request end (Read name) left new s is w p = refused count request left (Read name) new s tt w.0 w.1 p
+ends_not count request end Words left new s is w p = refused count request left Words new s tt w.0 (lacking request end Words is w.1) p
+ends_not count request end (NoFile name) left new s is w p = refused count request left (NoFile name) new s tt w.0 (lacking request end (NoFile name) is w.1) p
+ends_not count request end (Script fault) left new s is w p = refused count request left (Script fault) new s tt w.0 (lacking request end (Script fault) is w.1) p
+ends_not count request end (CallBudget k) left new s is w p = refused count request left (CallBudget k) new s tt w.0 (lacking request end (CallBudget k) is w.1) p
+ends_not count request end (TaskBudget limit) left new s is w p = refused count request left (TaskBudget limit) new s tt w.0 (lacking request end (TaskBudget limit) is w.1) p
 
-half_by : (request : Request) (end : End) (left : RunOutcome) (s : Status) → (s ≡ status.Write) ⊎ (s ≡ status.Memory) → IsFrontSaid end left → IsEndWithoutTask request end left s
-half_by request end left s (inl e) p = rw e (inl p)
-half_by request end left s (inr e) p = rw e (inl p)
-
-some_by : (request : Request) (end : End) (left : RunOutcome) (s : Status) → (s ≡ status.Write) ⊎ (s ≡ status.Memory) → IsSomeSaid request left → IsEndWithoutTask request end left s
-some_by request end left s (inl e) p = rw e (inr p)
-some_by request end left s (inr e) p = rw e (inr p)
-
-pub ends_not : (request : Request) (end found : End) (left : RunOutcome) (new : Option (List ℕ)) (s : Status) → IsTaskMissing request end left (Err found) → IsEndSaid found left.now.written new s
-    → IsEndWithoutTask request end (with_written left new) s
-ends_not request end Memory left new s n p = rw p.0 (inr (said_none request left new n p.1))
-ends_not request end Write left new s w p = rw p.0 (inr (said_none request left new w.0 p.1))
-ends_not request end (Read name) left new s w (inl p) = rw p.status_is (read_said request left name new w.0 w.1.0 w.1.1 p.wrote)
-ends_not request end (Read name) left new s w (inr p) = some_by request end (with_written left new) s p.wanting (read_half request left name new w.0 w.1.0 w.1.1 p.wrote)
-ends_not request end Words left new s w (inl p) = rw p.status_is (ap status_of w.1, line_said end Words left new w.0 w.1 p.wrote)
-ends_not request end Words left new s w (inr p) = half_by request end (with_written left new) s p.wanting (line_half end Words left new w.0 w.1 p.wrote)
-ends_not request end (NoFile name) left new s w (inl p) = rw p.status_is (ap status_of w.1, line_said end (NoFile name) left new w.0 w.1 p.wrote)
-ends_not request end (NoFile name) left new s w (inr p) = half_by request end (with_written left new) s p.wanting (line_half end (NoFile name) left new w.0 w.1 p.wrote)
-ends_not request end (Script fault) left new s w (inl p) = rw p.status_is (ap status_of w.1, line_said end (Script fault) left new w.0 w.1 p.wrote)
-ends_not request end (Script fault) left new s w (inr p) = half_by request end (with_written left new) s p.wanting (line_half end (Script fault) left new w.0 w.1 p.wrote)
-ends_not request end (CallBudget k) left new s w (inl p) = rw p.status_is (ap status_of w.1, line_said end (CallBudget k) left new w.0 w.1 p.wrote)
-ends_not request end (CallBudget k) left new s w (inr p) = half_by request end (with_written left new) s p.wanting (line_half end (CallBudget k) left new w.0 w.1 p.wrote)
-ends_not request end (TaskBudget limit) left new s w (inl p) = rw p.status_is (ap status_of w.1, line_said end (TaskBudget limit) left new w.0 w.1 p.wrote)
-ends_not request end (TaskBudget limit) left new s w (inr p) = half_by request end (with_written left new) s p.wanting (line_half end (TaskBudget limit) left new w.0 w.1 p.wrote)
-
-pub ends_said : (count : ℕ) (request : Request) (task : Result Task End) (left : RunOutcome) (end : End) (new : Option (List ℕ)) (s : Status) → IsRequestDoneBy count request task left (Err end) → IsEndSaid end left.now.written new s
-    → IsEndByTask count request task (with_written left new) s
-ends_said count request (Ok task) left end new s w p = ends_run count request task left end new s w p
-ends_said count request (Err e) left end new s w p = ends_not request e end left new s w p
+pub ends_said : (count : ℕ) (request : Request) (task : Result Task End) (left : RunOutcome) (end : End) (new : SinkView) (s : Status) → request.task ≡ task → IsRequestDoneBy count request task left (Err end)
+    → IsEndSaid end left.now.written new s → IsEndOfRun count request (with_written left new) s
+ends_said count request (Ok task) left end new s is w p = ends_run count request task left end new s is w p
+ends_said count request (Err e) left end new s is w p = ends_not count request e end left new s is w p
 
 -- ---- of what the words ask for
 
 pub whole_by : (table : Option Table) (words : List (List ℕ)) (count : ℕ) (left : RunOutcome) → HasRequestOfWords table words (λ request. IsRequestDone count request left (Ok false))
     → HasRequestOfWords table words (λ request. IsEndOfRun count request left status.Ok)
-whole_by table words count left w = (w.0, w.1, ends_whole count w.0 w.0.task left w.2)
+whole_by table words count left w = (w.0, w.1, ends_whole count w.0 w.0.task left refl w.2)
 
 pub broken_at : (table : Option Table) (words : List (List ℕ)) (count : ℕ) (left : RunOutcome) → HasRequestOfWords table words (λ request. IsRequestDone count request left (Ok true))
     → HasRequestOfWords table words (λ request. IsEndOfRun count request left status.Media)
-broken_at table words count left w = (w.0, w.1, ends_broken count w.0 w.0.task left w.2)
+broken_at table words count left w = (w.0, w.1, ends_broken count w.0 w.0.task left refl w.2)
 
-pub said_by : (table : Option Table) (words : List (List ℕ)) (count : ℕ) (left : RunOutcome) (end : End) (new : Option (List ℕ)) (s : Status)
+pub said_by : (table : Option Table) (words : List (List ℕ)) (count : ℕ) (left : RunOutcome) (end : End) (new : SinkView) (s : Status)
     → HasRequestOfWords table words (λ request. IsRequestDone count request left (Err end)) → IsEndSaid end left.now.written new s → HasRequestOfWords table words (λ request. IsEndOfRun count request (with_written left new) s)
-said_by table words count left end new s w p = (w.0, w.1, ends_said count w.0 w.0.task left end new s w.2 p)
+said_by table words count left end new s w p = (w.0, w.1, ends_said count w.0 w.0.task left end new s refl w.2 p)
+
+-- ---- a run that went through
+
+not_through : (end : End) (s : Status) → IsThrough s → s ≡ status_of end → ⊥
+not_through Memory s (inl e) is = cc (sym e ∙ is)
+not_through Memory s (inr e) is = cc (sym e ∙ is)
+not_through Write s (inl e) is = cc (sym e ∙ is)
+not_through Write s (inr e) is = cc (sym e ∙ is)
+not_through Words s (inl e) is = cc (sym e ∙ is)
+not_through Words s (inr e) is = cc (sym e ∙ is)
+not_through (NoFile name) s (inl e) is = cc (sym e ∙ is)
+not_through (NoFile name) s (inr e) is = cc (sym e ∙ is)
+not_through (Read name) s (inl e) is = cc (sym e ∙ is)
+not_through (Read name) s (inr e) is = cc (sym e ∙ is)
+not_through (Script fault) s (inl e) is = cc (sym e ∙ is)
+not_through (Script fault) s (inr e) is = cc (sym e ∙ is)
+not_through (CallBudget k) s (inl e) is = cc (sym e ∙ is)
+not_through (CallBudget k) s (inr e) is = cc (sym e ∙ is)
+not_through (TaskBudget limit) s (inl e) is = cc (sym e ∙ is)
+not_through (TaskBudget limit) s (inr e) is = cc (sym e ∙ is)
+
+-- what is printed and heard there
+printed_whole : (s : Status) (ending : Ending) (left : RunOutcome) → IsThrough s → IsPrintedBy s ending left → IsAllPrinted ending s left
+printed_whole s ending left (inl e) p = subst (λ (x : Status). IsAllPrinted ending x left) (sym e) (subst (λ (x : Status). IsPrintedBy x ending left) e p)
+printed_whole s ending left (inr e) p = subst (λ (x : Status). IsAllPrinted ending x left) (sym e) (subst (λ (x : Status). IsPrintedBy x ending left) e p)
+
+whole_by_ending : (ending : Ending) (count : ℕ) (request : Request) (task : Task) (left : RunOutcome) (s : Status) → request.task ≡ Ok task → IsThrough s → IsEnding count request left ending
+    → IsHeardBy ending s left → IsAllPrinted ending s left → IsRunToEnd count task left s
+whole_by_ending (Whole t) count request task left s is through f h p =
+    let same : t ≡ task = cc (sym f.0 ∙ is) in
+    subst (λ (x : Task). IsRunToEnd count x left s) same (record { ran = record { run = f.1; all = f.2; wrote = p.wrote; heard = h }; done = p.status_is })
+whole_by_ending (OverLimit t end) count request task left s is through f h p = absurd (not_through end s through p.status_is)
+whole_by_ending (CutShort t) count request task left s is through f h p = absurd p.status_is
+whole_by_ending (Refused end) count request task left s is through f h p = absurd (not_through end s through p.status_is)
+whole_by_ending Unbegun count request task left s is through f h p = absurd p.status_is
+
+-- all of the task was run
+pub ran_through : (count : ℕ) (request : Request) (task : Task) (left : RunOutcome) (s : Status) → request.task ≡ Ok task → IsThrough s → IsEndOfRun count request left s → IsRunToEnd count task left s
+ran_through count request task left s is through p = whole_by_ending p.ending count request task left s is through p.follows p.heard (printed_whole s p.ending left through p.printed)
 
 -- ---- the end by the status
 
@@ -233,11 +272,11 @@ not_short : (s other : Status) → (s ≡ status.Write) ⊎ (s ≡ status.Memory
 not_short s other (inl e) is write memory = write (sym is ∙ e)
 not_short s other (inr e) is write memory = memory (sym is ∙ e)
 
-line_status : (end : End) (old new : Option (List ℕ)) (s other : Status) → IsLineSaid end old new s → s ≡ other → other ≢ status.Write → other ≢ status.Memory → status_of end ≡ other
+line_status : (end : End) (old new : SinkView) (s other : Status) → IsLineSaid end old new s → s ≡ other → other ≢ status.Write → other ≢ status.Memory → status_of end ≡ other
 line_status end old new s other (inl p) is write memory = sym p.status_is ∙ is
 line_status end old new s other (inr p) is write memory = absurd (not_short s other p.wanting is write memory)
 
-pub end_of_status : (end : End) (old new : Option (List ℕ)) (s other : Status) → IsEndSaid end old new s → s ≡ other → other ≢ status.Write → other ≢ status.Memory → status_of end ≡ other
+pub end_of_status : (end : End) (old new : SinkView) (s other : Status) → IsEndSaid end old new s → s ≡ other → other ≢ status.Write → other ≢ status.Memory → status_of end ≡ other
 end_of_status Memory old new s other p is write memory = sym p.0 ∙ is
 end_of_status Write old new s other p is write memory = sym p.0 ∙ is
 end_of_status Words old new s other p is write memory = line_status Words old new s other p is write memory
@@ -279,7 +318,7 @@ put_failed end s a b c later before one two is = by_cases (later is)
 -- ---- what was counted
 
 -- a put that failed is told
-pub puts_told : (end : End) (s : Status) (old new : Option (List ℕ)) (a b c : ℕ) → IsEndSaid end old new s
+pub puts_told : (end : End) (s : Status) (old new : SinkView) (a b c : ℕ) → IsEndSaid end old new s
     → (¬ ◌≡◌ {A = Result Bool End} (Err end) (Err Write) → b ≡ a) → (s ≢ status.Write → c ≡ b) → s ≢ status.Write → c ≡ a
 puts_told end s old new a b c says before later not = later not ∙ before (λ e. not (is_write (cc)))
   where
@@ -287,7 +326,7 @@ puts_told end s old new a b c says before later not = later not ∙ before (λ e
     is_write e = (subst (λ (x : End). IsEndSaid x old new s) e says).0
 
 -- so is a load, but for want of memory and of the sink
-pub loads_told : (end : End) (s : Status) (old new : Option (List ℕ)) (a b : ℕ) → IsEndSaid end old new s → (¬ IsEndOfFailedLoad end → b ≡ a)
+pub loads_told : (end : End) (s : Status) (old new : SinkView) (a b : ℕ) → IsEndSaid end old new s → (¬ IsEndOfFailedLoad end → b ≡ a)
     → s ≢ status.Read → s ≢ status.Memory → s ≢ status.Write → b ≡ a
 loads_told Memory s old new a b says before r m w = absurd (m says.0)
 loads_told (Read name) s old new a b (inl whole) before r m w = absurd (r whole.status_is)

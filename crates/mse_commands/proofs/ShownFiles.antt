@@ -1,7 +1,7 @@
 -- A file that was shown, and what was asked for.
 use Rattle.std.proofs.Common.{◌≡◌, ℕ, List, [], length, refl, subst, inl, inr}
 use Rattle.std.specs.Prelude.{Bool, is_some, Option, Some, None, Result, Ok, Err}
-use Rattle.mse_outside.specs.Outside.{Table}
+use Rattle.mse_outside.specs.Outside.{SinkView, Table}
 use Rattle.mse_calls.specs.declared.rules.Rule.{Rule}
 use Rattle.mse_calls.specs.declared.entry.Entry.{Entry}
 use Rattle.listeners.specs.declared.listener.Note.{Note}
@@ -23,15 +23,15 @@ use Rattle.mse_commands.specs.Words.{command_of, file_of}
 use Rattle.mse_commands.specs.Works.{IsAppended, IsPartAppended, IsFileShowResult, IsRequestDone}
 use Rattle.mse_commands.proofs.DoneTasks.{did_nothing}
 
-pub shows_front : (command : Command) (bytes : List ℕ) (a b : RunView) (w : Option (List ℕ)) → IsPartAppended bytes (pieces_by command (length bytes)) a b → IsFileShowResult command bytes (printed_run a w) (printed_run b w) (Err Memory)
+pub shows_front : (command : Command) (bytes : List ℕ) (a b : RunView) (w : SinkView) → IsPartAppended bytes (pieces_by command (length bytes)) a b → IsFileShowResult command bytes (printed_run a w) (printed_run b w) (Err Memory)
 shows_front command bytes a b w p = inl (p, refl)
 
-pub shows_all : (command : Command) (bytes : List ℕ) (a b : RunView) (w0 w1 : Option (List ℕ)) (broken : Bool) → IsAppended bytes (pieces_by command (length bytes)) a b
+pub shows_all : (command : Command) (bytes : List ℕ) (a b : RunView) (w0 w1 : SinkView) (broken : Bool) → IsAppended bytes (pieces_by command (length bytes)) a b
     → ((st : State) → Stands b.engine st → IsWritten (file_closing command (length bytes) st) w0 w1)
     → ((st : State) → Stands b.engine st → broken ≡ is_some st.source.fault) → IsFileShowResult command bytes (printed_run a w0) (printed_run b w1) (Ok broken)
 shows_all command bytes a b w0 w1 broken p wrote broken_is = record { appended = p; shown = record { wrote = wrote }; broken_is = broken_is }
 
-pub shows_half : (command : Command) (bytes : List ℕ) (a b : RunView) (w0 w1 : Option (List ℕ)) (h : Halt) → IsAppended bytes (pieces_by command (length bytes)) a b
+pub shows_half : (command : Command) (bytes : List ℕ) (a b : RunView) (w0 w1 : SinkView) (h : Halt) → IsAppended bytes (pieces_by command (length bytes)) a b
     → ((st : State) → Stands b.engine st → IsFrontWritten (file_closing command (length bytes) st) w0 w1) → IsFileShowResult command bytes (printed_run a w0) (printed_run b w1) (Err (end_of_halt h))
 shows_half command bytes a b w0 w1 halt.Memory p wrote = inr (p, wrote)
 shows_half command bytes a b w0 w1 halt.Write p wrote = inr (p, wrote)
@@ -44,12 +44,12 @@ works_asked table count name words o after result is are p =
     subst (λ (x : Option Command). HasRequestOfCommand table (file_of words) x (λ request. IsRequestDone count request after result)) are
     (subst (λ (x : List ℕ). HasRequestOfCommand table x o (λ request. IsRequestDone count request after result)) is p)
 
-no_command : (table : Option Table) (count f : ℕ) (name : List ℕ) (w : Option (List ℕ)) (notes : List (List Note)) (rules : List (List Rule))
+no_command : (table : Option Table) (count f : ℕ) (name : List ℕ) (w : SinkView) (notes : List (List Note)) (rules : List (List Rule))
     → HasRequestOfCommand table name None (λ request. IsRequestDone count request (outcome [] None (outside_of f w notes rules) (outside_of f w notes rules)) (Err Words))
 no_command None count f name w notes rules = (record { files = λ x. None; names = []; task = Err Words }, (refl, refl), (did_nothing f f w notes rules, refl))
 no_command (Some files) count f name w notes rules = (request_of files name None, refl, (did_nothing f f w notes rules, refl))
 
-pub no_words : (table : Option Table) (count f : ℕ) (words : List (List ℕ)) (entries : List Entry) (engine : Option KeptEngine) (w : Option (List ℕ)) (notes : List (List Note)) (rules : List (List Rule))
+pub no_words : (table : Option Table) (count f : ℕ) (words : List (List ℕ)) (entries : List Entry) (engine : Option KeptEngine) (w : SinkView) (notes : List (List Note)) (rules : List (List Rule))
     → None ≡ command_of words → entries ≡ [] → engine ≡ None
     → HasRequestOfWords table words (λ request. IsRequestDone count request (outcome entries engine (outside_of f w notes rules) (outside_of f w notes rules)) (Err Words))
 no_words table count f words entries engine w notes rules none empty nothing =

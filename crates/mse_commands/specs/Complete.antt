@@ -10,9 +10,8 @@ use Rattle.mse_commands.specs.declared.ending.Status.{Status}
 use Rattle.mse_commands.specs.declared.ending.Status.TheVariants as status
 use Rattle.mse_commands.specs.Requests.{Request, Task, ByScript, opening_of}
 use Rattle.mse_commands.specs.Loads.{Failures}
-use Rattle.mse_commands.specs.Outcomes.{HasCause, IsBroken, RunOutcome, IsWholeRun}
+use Rattle.mse_commands.specs.Outcomes.{HasCause, IsDoneBy, RunOutcome, IsWholeRun}
 use Rattle.mse_commands.specs.Shown.{last_state}
-use Rattle.mse_engine.specs.State.{core_of}
 
 -- Nothing stands in the way of a task: neither the library nor the sink failed, of which `puts` has
 -- the counts, and no listener called too often.
@@ -20,11 +19,6 @@ pub record IsUnhindered (task : Task) (outcome : RunOutcome) (puts : Failures) :
   pub loads_done : ¬ HasRisen outcome.before.faults outcome.now.faults
   pub puts_done : ¬ HasRisen puts.before puts.now
   pub calls_within : (end : End) → ¬ HasCause task outcome end
-
--- the status is 9 where a file breaks the byte stream format, and else 0
-abbrev pub IsDoneBy : Task → List Entry → Status → Type 0
-IsDoneBy task entries end =
-    ((end ≡ status.Ok) × ¬ IsBroken task entries) ⊎ ((end ≡ status.Media) × IsBroken task entries)
 
 -- all of it was run, and the whole text was written
 pub record IsRunToEnd (count : ℕ) (task : Task) (outcome : RunOutcome) (end : Status) : Type 0 where
@@ -39,12 +33,12 @@ IsComplete count request outcome puts end =
     → IsRunToEnd count task outcome end ⊎ (end ≡ status.Memory)
 
 -- Where a script was played to its end and no listener made a call, cutting appended bytes anywhere, where the append was
--- awaited and the quota is not met, comes to the core of its last state: to the same tracks, ranges, duration and first
--- fault.
+-- awaited and the quota is not met, comes to the same as its last state: to the same tracks, ranges, append states, held
+-- bytes, duration and first fault.
 abbrev pub IsCutAnywhere : Request → List Entry → Status → Type 0
 IsCutAnywhere request entries end =
     (script : CallScript) (blobs : List (List ℕ)) → request.task ≡ Ok (ByScript script blobs)
     → end ≡ status.Ok
     → calls_in entries ≡ 0
     → AreCutsAlike blobs (opening_of (ByScript script blobs)) script.steps
-    (core_of (last_state (ByScript script blobs) entries))
+    (last_state (ByScript script blobs) entries)

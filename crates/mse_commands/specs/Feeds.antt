@@ -6,7 +6,8 @@ use Rattle.track_store.specs.State.{TrackState}
 use Rattle.track_buffers.specs.Media.{Media}
 use Rattle.source_buffers.specs.State.{in_slot, media_of_all}
 use Rattle.mse_engine.specs.State.{State}
-use Rattle.feed_lines.specs.Lines.{feed_text}
+use Rattle.feed_lines.specs.Lines.{lines_of_track}
+use Rattle.script_run.specs.Text.{line_if_any}
 
 abbrev pub tracks_of : Option Media → List TrackState
 tracks_of None = []
@@ -17,9 +18,9 @@ abbrev pub tracks_in : State → List TrackState
 tracks_in st = tracks_of (in_slot 0 (media_of_all st.buffers))
 
 -- the lines of each track from a time on
-abbrev pub feeds_in : ℤ → State → List ℕ
-feeds_in at st = flat_map (feed_text at) (tracks_in st)
+abbrev pub feeds_in : ℤ → State → List (List ℕ)
+feeds_in at st = flat_map (lines_of_track at) (tracks_in st)
 
 -- and then that of the first fault
-abbrev pub feed_closing : ℤ → State → List ℕ
-feed_closing at st = feeds_in at st ++ fault_lines st.source.fault
+abbrev pub feed_closing : ℤ → State → List (List ℕ)
+feed_closing at st = feeds_in at st ++ line_if_any (fault_lines st.source.fault)

@@ -39,6 +39,6 @@ IsThrough end = (end ≡ status.Ok) ⊎ (end ≡ status.Media)
 pub record IsThroughWith (files : Table) (words : List (List ℕ)) (before : List ℕ)
     (outcome : RunOutcome) (status : Status) : Type 0 where
   pub count : ℕ
-  pub before_is : outcome.before.written ≡ Some before
+  pub before_is : outcome.before.written.bytes ≡ Some before
   pub through : IsThrough status
   pub ends : IsEndOfRun count (request_in files words) outcome status

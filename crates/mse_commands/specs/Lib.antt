@@ -11,3 +11,6 @@ pub mod Works
 pub mod Says
 pub mod Files
 pub mod Complete
+pub mod Played
+pub mod Program
+pub mod Ends

@@ -45,7 +45,7 @@ IsScriptEnd table faults name (Script fault) =
 IsScriptEnd table faults name other =
     IsLoadEnd table faults (name ∷ []) (λ files. script_of_file files name) other
 
--- how something ends of which a load has failed: so it says, or there was no memory for the name
+-- how something may end of which a load has failed: it says so, or there was no memory for the name
 abbrev pub IsEndOfFailedLoad : End → Type 0
 IsEndOfFailedLoad (Read name) = ⊤
 IsEndOfFailedLoad Memory = ⊤

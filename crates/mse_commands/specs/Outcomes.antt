@@ -1,6 +1,6 @@
 -- How a run ends, by its words, the library and the sink.
-use Rattle.std.specs.Prelude.{◌≡◌, ◌⊎◌, ◌<◌, ℕ, List, [], ◌++◌, length, map, Option, None, MatchOption, IsSome, IsErr, Result, Ok, Err}
-use Rattle.mse_outside.specs.Outside.{HasRisen}
+use Rattle.std.specs.Prelude.{◌≡◌, ◌⊎◌, ◌<◌, ℕ, List, [], ◌∷◌, ◌++◌, length, map, Option, None, MatchOption, IsSome, IsErr, Ok, Err, ⊤}
+use Rattle.mse_outside.specs.Outside.{HasRisen, SinkView}
 use Rattle.mse_calls.specs.declared.entry.Entry.{Entry}
 use Rattle.mse_calls.specs.declared.rules.Rule.{Rule}
 use Rattle.mse_engine.specs.Run.{IsReplay}
@@ -11,29 +11,29 @@ use Rattle.remux.specs.Pieces.{pieces_of_file}
 use Rattle.script_run.specs.declared.stop.Halt.{Halt}
 use Rattle.script_run.specs.declared.stop.Halt.TheVariants as halt
 use Rattle.script_run.specs.declared.stop.Stop.TheVariants as stop
-use Rattle.script_run.specs.PlayedParts.{IsHeardUpTo, IsOverLimit}
+use Rattle.script_run.specs.PlayedParts.{IsHeardUpTo, IsOverLimit, IsWrittenToLastStep}
 use Rattle.script_run.specs.Rules.{rules_of_listener, rules_for}
 use Rattle.script_run.specs.NoteHistory.{IsAllHeard}
 use Rattle.script_run.specs.Turns.{HasCallsLeftInLine}
-use Rattle.script_run.specs.Writes.{IsWritten, IsFrontWritten}
+use Rattle.script_run.specs.Writes.{IsWritten, IsFrontWrittenBehind}
 use Rattle.mse_commands.specs.declared.ending.End.{End}
-use Rattle.mse_commands.specs.declared.ending.End.TheVariants.{Memory, Write, Words, NoFile, Read, Script, CallBudget, TaskBudget}
+use Rattle.mse_commands.specs.declared.ending.End.TheVariants.{Read, CallBudget, TaskBudget}
 use Rattle.mse_commands.specs.declared.ending.Status.{Status}
 use Rattle.mse_commands.specs.declared.ending.Status.TheVariants as status
 use Rattle.mse_commands.specs.Requests.{Request, Task, ByScript, ByFile, ByRemux, blobs_of, opening_of}
 use Rattle.mse_commands.specs.Endings.{error_line, status_of}
 use Rattle.mse_commands.specs.Loads.{IsReached}
-use Rattle.mse_commands.specs.Shown.{IsAllOf, IsFrontOf, last_state, shown_lines, text_of}
+use Rattle.mse_commands.specs.Shown.{IsAllOf, IsFrontOf, closing_lines, last_state, shown_lines, text_of}
 
 -- what stands around a run: the library's count of failures, what was written, and the notes and
 -- rules of each listener
 pub record Outside : Type 0 where
   pub faults : ℕ
-  pub written : Option (List ℕ)
+  pub written : SinkView
   pub notes : List (List Note)
   pub rules : List (List Rule)
 
-abbrev pub outside_of : ℕ → Option (List ℕ) → List (List Note) → List (List Rule) → Outside
+abbrev pub outside_of : ℕ → SinkView → List (List Note) → List (List Rule) → Outside
 outside_of faults written notes rules =
     record { faults = faults; written = written; notes = notes; rules = rules }
 
@@ -50,12 +50,12 @@ outcome entries engine before now =
 
 -- the same of a library, a sink and listeners, before the run and now, by what is seen of each: the library's count of
 -- failures, what was written, and the notes and rules of a listener
-abbrev pub outside_at : {L K A : Type 0} → (L → ℕ) → (K → Option (List ℕ)) → (A → List Note)
+abbrev pub outside_at : {L K A : Type 0} → (L → ℕ) → (K → SinkView) → (A → List Note)
     → (A → List Rule) → L × K × List A → Outside
 outside_at faults written notes rules place =
     outside_of (faults place.0) (written place.1) (map notes place.2) (map rules place.2)
 
-abbrev pub outcome_at : {L K A : Type 0} → (L → ℕ) → (K → Option (List ℕ)) → (A → List Note)
+abbrev pub outcome_at : {L K A : Type 0} → (L → ℕ) → (K → SinkView) → (A → List Note)
     → (A → List Rule) → List Entry → Option KeptEngine → L × K × List A → L × K × List A
     → RunOutcome
 outcome_at faults written notes rules entries engine before now =
@@ -103,7 +103,7 @@ AreRulesOfTask (ByScript script blobs) outcome =
 AreRulesOfTask other outcome = outcome.now.rules ≡ outcome.before.rules
 
 -- What was heard where memory or the sink was wanting: each listener heard each event, but that the dispatch of the last
--- event may have ended for want of memory, or, where the sink was wanting, at a limit of calls.
+-- event may have ended at a limit of calls, or, where memory was wanting, for want of it.
 abbrev pub IsHeardTo : Task → Halt → RunOutcome → Type 0
 IsHeardTo (ByScript script blobs) halt outcome =
     IsHeardUpTo (HasCallsLeftInLine script.drain) halt outcome.entries outcome.before.notes
@@ -119,13 +119,7 @@ pub record IsWholeRun (count : ℕ) (task : Task) (outcome : RunOutcome) : Type 
   pub wrote : IsWritten (text_of task outcome.entries) outcome.before.written outcome.now.written
   pub heard : IsHeard task outcome
 
--- a front of it
-pub record IsFrontRun (count : ℕ) (task : Task) (outcome : RunOutcome) : Type 0 where
-  pub run : IsRun task outcome
-  pub front : IsFrontOf count task outcome.entries
-  pub rules : AreRulesOfTask task outcome
-
--- nothing
+-- nothing was run
 pub record IsNothingRun (outcome : RunOutcome) : Type 0 where
   pub entries : outcome.entries ≡ []
   pub engine : outcome.engine ≡ None
@@ -138,6 +132,11 @@ IsBroken (ByScript script blobs) entries = ⊥
 IsBroken (ByFile command bytes) entries =
     IsSome (last_state (ByFile command bytes) entries).source.fault
 IsBroken (ByRemux bytes) entries = IsErr (pieces_of_file bytes)
+
+-- all was run: the status is 9 where a file breaks the byte stream format, and else 0
+abbrev pub IsDoneBy : Task → List Entry → Status → Type 0
+IsDoneBy task entries end =
+    ((end ≡ status.Ok) × ¬ IsBroken task entries) ⊎ ((end ≡ status.Media) × IsBroken task entries)
 
 -- ---- why a run ended early
 
@@ -153,104 +152,103 @@ HasCause (ByScript script blobs) outcome (TaskBudget limit) =
     outcome.now.notes
 HasCause task outcome end = ⊥
 
--- the lines, and the error line whose cause had come
-pub record IsEndedWithCause (count : ℕ) (task : Task) (outcome : RunOutcome)
-    (end : End) : Type 0 where
-  pub ran : IsFrontRun count task outcome
-  pub cause : HasCause task outcome end
-  pub wrote : IsWritten (shown_lines task outcome.entries ++ error_line end) outcome.before.written
-      outcome.now.written
+-- Why nothing was run: the library failed to read the file of this name, which is one of those that are loaded, behind
+-- others that are there; or there is nothing to run.
+abbrev pub IsRefusal : Request → RunOutcome → End → Type 0
+IsRefusal request outcome (Read name) =
+    HasRisen outcome.before.faults outcome.now.faults
+    × IsReached request.files request.names name
+IsRefusal request outcome end = request.task ≡ Err end
 
--- a front of the lines; or, where all was run, of the whole text
-abbrev pub IsTextWritten : ℕ → Task → RunOutcome → Type 0
-IsTextWritten count task outcome =
-    IsFrontWritten (shown_lines task outcome.entries) outcome.before.written outcome.now.written
-    ⊎ (IsAllOf count task outcome.entries
-    × IsFrontWritten (text_of task outcome.entries) outcome.before.written outcome.now.written)
+-- ---- what a run came to
 
--- or of the lines and the error line whose cause had come
-abbrev pub IsSomeWritten : ℕ → Task → RunOutcome → Type 0
-IsSomeWritten count task outcome =
-    IsTextWritten count task outcome
-    ⊎ ((end : End) × HasCause task outcome end
-    × IsFrontWritten (shown_lines task outcome.entries ++ error_line end) outcome.before.written
-    outcome.now.written)
+-- All of a task was run; a front of it, up to a limit of calls that is told; a front of it, as far as memory and the sink
+-- went; nothing, for a reason that is told; or nothing, for want of memory or of the sink.
+pub data Ending : Type 0 where
+  Whole : Task → Ending
+  OverLimit : Task → End → Ending
+  CutShort : Task → Ending
+  Refused : End → Ending
+  Unbegun : Ending
 
--- the library failed to read a file of this name, which is one of those that are loaded, behind others that are there
-pub record HasFailedRead (request : Request) (outcome : RunOutcome) : Type 0 where
-  pub name : List ℕ
-  pub rose : HasRisen outcome.before.faults outcome.now.faults
-  pub reached : IsReached request.files request.names name
+-- what happened, and how far it follows what was asked for
+abbrev pub IsEnding : ℕ → Request → RunOutcome → Ending → Type 0
+IsEnding count request outcome (Whole task) =
+    (request.task ≡ Ok task) × IsRun task outcome × IsAllOf count task outcome.entries
+IsEnding count request outcome (OverLimit task end) =
+    (request.task ≡ Ok task) × IsRun task outcome × IsFrontOf count task outcome.entries
+    × HasCause task outcome end
+IsEnding count request outcome (CutShort task) =
+    (request.task ≡ Ok task) × IsRun task outcome × IsFrontOf count task outcome.entries
+IsEnding count request outcome (Refused end) =
+    IsNothingRun outcome × IsRefusal request outcome end
+IsEnding count request outcome Unbegun = IsNothingRun outcome
 
--- so says the line, and nothing was run
-pub record IsEndedByRead (request : Request) (outcome : RunOutcome) : Type 0 where
-  pub nothing : IsNothingRun outcome
-  pub cause : HasFailedRead request outcome
-  pub wrote : IsWritten (error_line (Read cause.name)) outcome.before.written outcome.now.written
+-- the lines that are printed while a task runs
+abbrev pub lines_ahead : List Entry → Ending → List (List ℕ)
+lines_ahead entries (Whole task) = shown_lines task entries
+lines_ahead entries (OverLimit task end) = shown_lines task entries
+lines_ahead entries other = []
 
--- nothing was run, and nothing was written, or a front of the line of a read that failed
-pub record IsSomeSaid (request : Request) (outcome : RunOutcome) : Type 0 where
-  pub nothing : IsNothingRun outcome
-  pub wrote : (outcome.now.written ≡ outcome.before.written)
-      ⊎ ((cause : HasFailedRead request outcome)
-      × IsFrontWritten (error_line (Read cause.name)) outcome.before.written outcome.now.written)
+-- and those behind them: what closes it, or the line of the end
+abbrev pub last_lines : List Entry → Ending → List (List ℕ)
+last_lines entries (Whole task) = closing_lines task (last_state task entries)
+last_lines entries (OverLimit task end) = error_line end ∷ []
+last_lines entries (Refused end) = error_line end ∷ []
+last_lines entries other = []
 
--- a front was run, and memory or the sink was wanting
-pub record IsRunCutShort (count : ℕ) (halt : Halt) (task : Task)
-    (outcome : RunOutcome) : Type 0 where
-  pub ran : IsFrontRun count task outcome
-  pub heard : IsHeardTo task halt outcome
-  pub wrote : IsSomeWritten count task outcome
-
--- or nothing was run
-abbrev pub IsEndedShort : ℕ → Halt → Request → Task → RunOutcome → Type 0
-IsEndedShort count halt request task outcome =
-    IsRunCutShort count halt task outcome ⊎ IsSomeSaid request outcome
+-- the status of it, where all lines were printed
+abbrev pub IsStatusOf : List Entry → Ending → Status → Type 0
+IsStatusOf entries (Whole task) end = IsDoneBy task entries end
+IsStatusOf entries (OverLimit task why) end = end ≡ status_of why
+IsStatusOf entries (CutShort task) end = ⊥
+IsStatusOf entries (Refused why) end = end ≡ status_of why
+IsStatusOf entries Unbegun end = ⊥
 
 -- ---- by the status
 
--- how a run ends that has something to run
-abbrev pub IsEndOfTask : ℕ → Request → Task → RunOutcome → Status → Type 0
-IsEndOfTask count request task outcome status.Ok =
-    IsWholeRun count task outcome × ¬ IsBroken task outcome.entries
-IsEndOfTask count request task outcome status.Media =
-    IsWholeRun count task outcome × IsBroken task outcome.entries
-IsEndOfTask count request task outcome status.CallBudget =
-    (k : ℕ) × IsEndedWithCause count task outcome (CallBudget k)
-IsEndOfTask count request task outcome status.TaskBudget =
-    (limit : ℕ) × IsEndedWithCause count task outcome (TaskBudget limit)
-IsEndOfTask count request task outcome status.Read = IsEndedByRead request outcome
-IsEndOfTask count request task outcome status.Write =
-    IsEndedShort count halt.Write request task outcome
-IsEndOfTask count request task outcome status.Memory =
-    IsEndedShort count halt.Memory request task outcome
-IsEndOfTask count request task outcome status.Words = ⊥
-IsEndOfTask count request task outcome status.Script = ⊥
-IsEndOfTask count request task outcome status.NoFile = ⊥
+-- What was heard: of what was run to its end all, and of a front as far as memory and the sink went. Behind a limit of
+-- calls the cause says it.
+abbrev pub IsHeardBy : Ending → Status → RunOutcome → Type 0
+IsHeardBy (Whole task) end outcome = IsHeard task outcome
+IsHeardBy (OverLimit task why) end outcome = AreRulesOfTask task outcome
+IsHeardBy (CutShort task) status.Write outcome =
+    AreRulesOfTask task outcome × IsHeardTo task halt.Write outcome
+IsHeardBy (CutShort task) status.Memory outcome =
+    AreRulesOfTask task outcome × IsHeardTo task halt.Memory outcome
+IsHeardBy ending end outcome = ⊤
 
--- nothing was run, and a front of this line was written
-pub record IsFrontSaid (end : End) (outcome : RunOutcome) : Type 0 where
-  pub nothing : IsNothingRun outcome
-  pub wrote : IsFrontWritten (error_line end) outcome.before.written outcome.now.written
+-- Of a script the lines as far as it came, but that of those of the last thing that was done only a front may have been
+-- written; of a file nothing.
+abbrev pub AreLinesWritten : Task → RunOutcome → Type 0
+AreLinesWritten (ByScript script blobs) outcome =
+    IsWrittenToLastStep outcome.entries outcome.before.written outcome.now.written
+AreLinesWritten other outcome = outcome.now.written ≡ outcome.before.written
 
--- nothing was run, and this line was written
-pub record IsSaid (end : End) (outcome : RunOutcome) : Type 0 where
-  pub nothing : IsNothingRun outcome
-  pub wrote : IsWritten (error_line end) outcome.before.written outcome.now.written
+-- that; or nothing, where nothing was run; or the lines ahead, and a front of the last ones
+abbrev pub IsFrontPrinted : Ending → RunOutcome → Type 0
+IsFrontPrinted (CutShort task) outcome = AreLinesWritten task outcome
+IsFrontPrinted Unbegun outcome = outcome.now.written ≡ outcome.before.written
+IsFrontPrinted ending outcome =
+    IsFrontWrittenBehind (lines_ahead outcome.entries ending) (last_lines outcome.entries ending)
+    outcome.before.written outcome.now.written
 
--- how one ends that has nothing to run: it says why, unless the library or the sink fails or memory is wanting
-abbrev pub IsEndWithoutTask : Request → End → RunOutcome → Status → Type 0
-IsEndWithoutTask request end outcome status.Read = IsEndedByRead request outcome
-IsEndWithoutTask request end outcome status.Write =
-    IsFrontSaid end outcome ⊎ IsSomeSaid request outcome
-IsEndWithoutTask request end outcome status.Memory =
-    IsFrontSaid end outcome ⊎ IsSomeSaid request outcome
-IsEndWithoutTask request end outcome other = (other ≡ status_of end) × IsSaid end outcome
+-- all lines, and the status is that of the ending
+pub record IsAllPrinted (ending : Ending) (end : Status) (outcome : RunOutcome) : Type 0 where
+  pub status_is : IsStatusOf outcome.entries ending end
+  pub wrote : IsWritten (lines_ahead outcome.entries ending ++ last_lines outcome.entries ending)
+      outcome.before.written outcome.now.written
 
-abbrev pub IsEndByTask : ℕ → Request → Result Task End → RunOutcome → Status → Type 0
-IsEndByTask count request (Ok task) outcome end = IsEndOfTask count request task outcome end
-IsEndByTask count request (Err found) outcome end = IsEndWithoutTask request found outcome end
+-- What was printed: a front where memory or the sink was wanting, and else all.
+abbrev pub IsPrintedBy : Status → Ending → RunOutcome → Type 0
+IsPrintedBy status.Write ending outcome = IsFrontPrinted ending outcome
+IsPrintedBy status.Memory ending outcome = IsFrontPrinted ending outcome
+IsPrintedBy end ending outcome = IsAllPrinted ending end outcome
 
--- How a run ends, by what was asked for and by its status.
-abbrev pub IsEndOfRun : ℕ → Request → RunOutcome → Status → Type 0
-IsEndOfRun count request outcome end = IsEndByTask count request request.task outcome end
+-- How a run ends: what it came to, which follows what was asked for; what listeners heard, and what was printed.
+pub record IsEndOfRun (count : ℕ) (request : Request) (outcome : RunOutcome)
+    (end : Status) : Type 0 where
+  pub ending : Ending
+  pub follows : IsEnding count request outcome ending
+  pub heard : IsHeardBy ending end outcome
+  pub printed : IsPrintedBy end ending outcome

@@ -1,7 +1,6 @@
 -- What `remux` writes of a classic file (docs/SCRIPTS.md, commands): its pieces as a fragmented file, or its fault.
 use Rattle.std.specs.Prelude.{ℕ, List, [], ◌∷◌, ◌++◌, codes, Result, Ok, Err}
 use Rattle.std.specs.Fmt.{decimal}
-use Rattle.std.specs.List.{flat_map}
 use Rattle.buffer_state.specs.Faults.{init_missing, init_number}
 use Rattle.event_text.specs.Faults.{init_fault_text}
 use Rattle.event_text.specs.Words.{line}
@@ -43,10 +42,10 @@ remux_fault_line fault offset =
     line (codes "fault" ∷ decimal (remux_number fault) ∷ (remux_name fault ++ moov_text fault)
     ∷ codes "at" ∷ decimal offset ∷ [])
 
-abbrev pub pieces_or_fault : Result (List (List ℕ)) PlacedFault → List ℕ
-pieces_or_fault (Ok pieces) = flat_map (λ piece. piece) pieces
-pieces_or_fault (Err placed) = remux_fault_line placed.fault placed.offset
+abbrev pub pieces_or_fault : Result (List (List ℕ)) PlacedFault → List (List ℕ)
+pieces_or_fault (Ok pieces) = pieces
+pieces_or_fault (Err placed) = remux_fault_line placed.fault placed.offset ∷ []
 
--- the pieces one after the other, or the line of the fault
-abbrev pub remux_text : List ℕ → List ℕ
-remux_text bytes = pieces_or_fault (pieces_of_file bytes)
+-- the initialization segment and the media segments, or the line of the fault
+abbrev pub remux_pieces : List ℕ → List (List ℕ)
+remux_pieces bytes = pieces_or_fault (pieces_of_file bytes)

@@ -14,14 +14,14 @@ use Rattle.mse_engine.specs.Views.{view_in}
 use Rattle.script_run.specs.DrainSteps.{IsDrain}
 use Rattle.script_run.specs.Follows.{AreLinesBegun, AreLinesDone}
 use Rattle.script_run.specs.Lines.{limits, play_inputs}
-use Rattle.script_run.specs.Text.{lines_of}
+use Rattle.script_run.specs.Text.{lines_in, lines_of}
 use Rattle.script_run.specs.Turns.{calls_in}
 use Rattle.mse_commands.specs.declared.words.Command.{Command}
 use Rattle.mse_commands.specs.declared.words.Command.TheVariants.{Pieces, Make, Feed}
 use Rattle.mse_commands.specs.Requests.{Task, ByScript, ByFile, ByRemux, blobs_of, opening_of}
 use Rattle.mse_commands.specs.Feeds.{feed_closing}
 use Rattle.mse_commands.specs.Heading.{heading_of}
-use Rattle.mse_commands.specs.Remuxing.{remux_text}
+use Rattle.mse_commands.specs.Remuxing.{remux_pieces}
 
 -- ---- a file
 
@@ -109,20 +109,22 @@ abbrev pub last_state : Task → List Entry → State
 last_state task entries = after_entries (blobs_of task) (opening_of task) entries
 
 -- the lines that are printed as their entries come: those of a script
-abbrev pub shown_lines : Task → List Entry → List ℕ
+abbrev pub shown_lines : Task → List Entry → List (List ℕ)
 shown_lines (ByScript script blobs) entries = lines_of entries
 shown_lines other entries = []
 
 -- what closes a file of so many bytes: what a decoder is given of it, or its block
-abbrev pub file_closing : Command → ℕ → State → List ℕ
+abbrev pub file_closing : Command → ℕ → State → List (List ℕ)
 file_closing (Feed at) len st = feed_closing at st
-file_closing other len st = heading_of other len ++ closing_text (view_in st) false
+file_closing other len st =
+    lines_in (heading_of other len) ++ lines_in (closing_text (view_in st) false)
 
 -- the lines that close it
-abbrev pub closing_lines : Task → State → List ℕ
-closing_lines (ByScript script blobs) st = closing_text (view_in st) true
+abbrev pub closing_lines : Task → State → List (List ℕ)
+closing_lines (ByScript script blobs) st = lines_in (closing_text (view_in st) true)
 closing_lines (ByFile command bytes) st = file_closing command (length bytes) st
-closing_lines (ByRemux bytes) st = remux_text bytes
+closing_lines (ByRemux bytes) st = remux_pieces bytes
 
-abbrev pub text_of : Task → List Entry → List ℕ
+-- all that is written, put by put
+abbrev pub text_of : Task → List Entry → List (List ℕ)
 text_of task entries = shown_lines task entries ++ closing_lines task (last_state task entries)

@@ -1,5 +1,6 @@
 -- What is done before the line that says why a run ends early.
-use Rattle.std.specs.Prelude.{◌≡◌, ◌⊎◌, ℕ, List, [], ◌∷◌, ◌++◌, length, Bool, true, false, Option, Result, Ok, Err, is_err, is_some}
+use Rattle.std.specs.Prelude.{◌≡◌, ◌⊎◌, ℕ, List, [], ◌∷◌, ◌++◌, length, Bool, true, false, Result, Ok, Err, is_err, is_some}
+use Rattle.mse_outside.specs.Outside.{SinkView}
 use Rattle.mse_calls.specs.declared.answers.Answer.{Answer}
 use Rattle.mse_calls.specs.declared.calls.Piece.{Piece}
 use Rattle.mse_calls.specs.declared.entry.Entry.{Entry}
@@ -21,13 +22,14 @@ use Rattle.script_run.specs.Lines.{Limits, limits}
 use Rattle.listeners.specs.Views.{RunView}
 use Rattle.script_run.specs.PlayedParts.{PartFront, HasGrown, IsPlayed, IsPlayedUpTo, IsOwnStep, part_front}
 use Rattle.script_run.specs.RunStates.{PrintedRun, RunState}
+use Rattle.script_run.specs.Text.{lines_in}
 use Rattle.script_run.specs.Turns.{HasCallsLeftInLine, calls_in}
-use Rattle.script_run.specs.Writes.{IsWritten, IsFrontWritten}
+use Rattle.script_run.specs.Writes.{IsWritten, IsFrontWritten, IsFrontWrittenBehind}
 use Rattle.mse_commands.specs.declared.ending.End.{End}
 use Rattle.mse_commands.specs.declared.ending.End.TheVariants.{Memory, Write, Words, NoFile, Read, Script, CallBudget, TaskBudget}
 use Rattle.mse_commands.specs.Requests.{Request, Task, ByScript, ByFile, ByRemux}
-use Rattle.mse_commands.specs.Outcomes.{HasFailedRead, HasCause, AreRulesOfNumbers, IsHeardTo, RunOutcome, IsFrontRun, IsNothingRun, IsWholeRun, IsTextWritten}
-use Rattle.mse_commands.specs.Shown.{IsWholeFile, file_closing, last_state, open_entries, pieces_by, shown_lines}
+use Rattle.mse_commands.specs.Outcomes.{AreLinesWritten, HasCause, AreRulesOfNumbers, AreRulesOfTask, IsHeard, IsHeardTo, IsRefusal, IsRun, RunOutcome, IsNothingRun, IsWholeRun}
+use Rattle.mse_commands.specs.Shown.{IsAllOf, IsFrontOf, IsWholeFile, closing_lines, file_closing, last_state, open_entries, pieces_by, shown_lines}
 use Rattle.mse_commands.specs.declared.words.Command.{Command}
 
 -- the source was opened, and has a source buffer of ISO BMFF
@@ -61,17 +63,17 @@ pub record IsPartAppended (bytes : List ℕ) (pieces : List Piece) (old new : Ru
 -- ---- a file that is shown
 
 -- what is written of it, for the state that the engine stands for
-abbrev pub IsFrontShown : (State → List ℕ) → RunView → Option (List ℕ) → Option (List ℕ) → Type 0
-IsFrontShown text new written_before written =
-    (st : State) → Stands new.engine st → IsFrontWritten (text st) written_before written
+abbrev pub IsFrontShown : (State → List (List ℕ)) → RunView → SinkView → SinkView → Type 0
+IsFrontShown lines new written_before written =
+    (st : State) → Stands new.engine st → IsFrontWritten (lines st) written_before written
 
-pub record IsAllShown (text : State → List ℕ) (new : RunView)
-    (written_before written : Option (List ℕ)) : Type 0 where
-  pub wrote : (st : State) → Stands new.engine st → IsWritten (text st) written_before written
+pub record IsAllShown (lines : State → List (List ℕ)) (new : RunView)
+    (written_before written : SinkView) : Type 0 where
+  pub wrote : (st : State) → Stands new.engine st → IsWritten (lines st) written_before written
 
 -- what closes a script
-abbrev pub script_closing : State → List ℕ
-script_closing st = closing_text (view_in st) true
+abbrev pub script_closing : State → List (List ℕ)
+script_closing st = lines_in (closing_text (view_in st) true)
 
 pub record IsFileShown (command : Command) (bytes : List ℕ) (old new : PrintedRun)
     (broken : Bool) : Type 0 where
@@ -114,7 +116,7 @@ script_inputs count script blobs = record {
 -- all lines, and what closes a script
 pub record IsScriptPlayed (inputs : ScriptInputs) (given : List (List Rule))
     (old new : RunState) : Type 0 where
-  pub middle : Option (List ℕ)
+  pub middle : SinkView
   pub played : IsPlayed inputs.blobs (AreScriptLinesDone inputs.blobs inputs.limits inputs.lines)
       old
       (record new { written = middle })
@@ -135,7 +137,7 @@ pub record IsScriptStopped (inputs : ScriptInputs) (given : List (List Rule)) (o
 -- all lines, and a front of what closes a script
 pub record IsScriptHalfPlayed (inputs : ScriptInputs) (given : List (List Rule))
     (old new : RunState) : Type 0 where
-  pub middle : Option (List ℕ)
+  pub middle : SinkView
   pub played : IsPlayed inputs.blobs (AreScriptLinesDone inputs.blobs inputs.limits inputs.lines)
       old
       (record new { written = middle })
@@ -176,6 +178,21 @@ is_broken_in (ByFile command bytes) entries =
     is_some (last_state (ByFile command bytes) entries).source.fault
 is_broken_in (ByRemux bytes) entries = is_err (pieces_of_file bytes)
 
+-- a front was run
+pub record IsFrontRun (count : ℕ) (task : Task) (outcome : RunOutcome) : Type 0 where
+  pub run : IsRun task outcome
+  pub front : IsFrontOf count task outcome.entries
+  pub rules : AreRulesOfTask task outcome
+
+-- the lines of a front were written; or, where all was run and heard, all lines and a front of those that close it
+abbrev pub IsTextWritten : ℕ → Task → RunOutcome → Type 0
+IsTextWritten count task outcome =
+    AreLinesWritten task outcome
+    ⊎ (IsAllOf count task outcome.entries × IsHeard task outcome
+    × IsFrontWrittenBehind (shown_lines task outcome.entries)
+    (closing_lines task (last_state task outcome.entries))
+    outcome.before.written outcome.now.written)
+
 -- nothing was run and nothing was written
 pub record IsNothingDone (outcome : RunOutcome) : Type 0 where
   pub nothing : IsNothingRun outcome
@@ -204,7 +221,7 @@ IsTaskDone count request task outcome (Err Memory) =
     IsNothingDone outcome ⊎ IsSomeDone count halt.Memory task outcome
 IsTaskDone count request task outcome (Err Write) = IsSomeDone count halt.Write task outcome
 IsTaskDone count request task outcome (Err (Read name)) =
-    IsNothingDone outcome × ((cause : HasFailedRead request outcome) × (cause.name ≡ name))
+    IsNothingDone outcome × IsRefusal request outcome (Read name)
 IsTaskDone count request task outcome (Err (CallBudget k)) =
     IsDoneUpTo count task outcome (CallBudget k)
 IsTaskDone count request task outcome (Err (TaskBudget limit)) =
@@ -218,7 +235,7 @@ abbrev pub IsTaskMissing : Request → End → RunOutcome → Result Bool End �
 IsTaskMissing request end outcome (Ok broken) = ⊥
 IsTaskMissing request end outcome (Err Memory) = IsNothingDone outcome
 IsTaskMissing request end outcome (Err (Read name)) =
-    IsNothingDone outcome × ((cause : HasFailedRead request outcome) × (cause.name ≡ name))
+    IsNothingDone outcome × IsRefusal request outcome (Read name)
 IsTaskMissing request end outcome (Err other) = IsNothingDone outcome × (other ≡ end)
 
 abbrev pub IsRequestDoneBy : ℕ → Request → Result Task End → RunOutcome → Result Bool End → Type 0

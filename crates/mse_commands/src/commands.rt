@@ -11,6 +11,7 @@ ghost use Rattle.mse_engine.specs.Standing.{Stands};
 ghost use Rattle.mse_engine.specs.Views.{view_in};
 ghost use Rattle.mse_outside.specs.Outside.{HasRisen};
 ghost use Rattle.script_run.specs.RunStates.{printed_run, run_at};
+ghost use Rattle.script_run.specs.Text.{lines_in};
 ghost use Rattle.script_run.specs.Writes.{IsWritten, IsFrontWritten};
 ghost use Rattle.mse_commands.specs.Requests.{IsFileCommand, HasRequestOfCommand, HasRequestOfWords, file_by, files_by};
 ghost use Rattle.mse_commands.specs.Heading.{heading_of};
@@ -48,6 +49,7 @@ const QUOTA: u64 = 1 << 62;
 const MADE_PIECE: usize = 1000;
 
 /// What closes a run that went through, behind a text.
+#[tactic(auto, using(script_run::proofs::PutLines::front_none))]
 fn close<S: FrameStore, K: Sink>(
     alloc: Global,
     engine: &Engine<S>,
@@ -56,10 +58,12 @@ fn close<S: FrameStore, K: Sink>(
     whole: bool,
 ) -> Result<(), Halt>
     ensures ok { (st : State) → Stands engine.now st
-        → OnOk result (IsWritten (string_bytes before ++ closing_text (view_in st) whole)
+        → OnOk result (IsWritten
+        (lines_in (string_bytes before) ++ lines_in (closing_text (view_in st) whole))
         (K.written sink.old) (K.written sink.new)) }
     ensures err { (st : State) → Stands engine.now st
-        → OnErr result (IsFrontWritten (string_bytes before ++ closing_text (view_in st) whole)
+        → OnErr result (IsFrontWritten
+        (lines_in (string_bytes before) ++ lines_in (closing_text (view_in st) whole))
         (K.written sink.old) (K.written sink.new)) }
     ensures no_fewer_faults { K.faults sink.old ≤ K.faults sink.new }
     ensures cause { IsErrOf result Halt.Write → HasRisen (K.faults sink.old) (K.faults sink.new) }
@@ -134,6 +138,7 @@ fn file_for<L: Library>(
 }
 
 /// The block that closes a run with a file of `len` bytes.
+#[tactic(auto, using(script_run::proofs::PutLines::front_none))]
 fn close_block<S: FrameStore, K: Sink>(
     alloc: Global,
     engine: &Engine<S>,
@@ -142,11 +147,12 @@ fn close_block<S: FrameStore, K: Sink>(
     len: usize,
 ) -> Result<(), Halt>
     ensures ok { (st : State) → Stands engine.now st
-        → OnOk result (IsWritten (heading_of command.now len ++ closing_text (view_in st) false)
+        → OnOk result (IsWritten
+        (lines_in (heading_of command.now len) ++ lines_in (closing_text (view_in st) false))
         (K.written sink.old) (K.written sink.new)) }
     ensures err { (st : State) → Stands engine.now st
         → OnErr result (IsFrontWritten
-        (heading_of command.now len ++ closing_text (view_in st) false)
+        (lines_in (heading_of command.now len) ++ lines_in (closing_text (view_in st) false))
         (K.written sink.old) (K.written sink.new)) }
     ensures no_fewer_faults { K.faults sink.old ≤ K.faults sink.new }
     ensures cause { IsErrOf result Halt.Write → HasRisen (K.faults sink.old) (K.faults sink.new) }

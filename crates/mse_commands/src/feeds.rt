@@ -1,11 +1,12 @@
 //! What a decoder is given of the tracks of the one source buffer.
 
 ghost use Rattle.std.specs.Prelude.{◌≡◌, ◌≤◌, length, slice_get, IfOk, IfSome, OnOk, OnErr, IsErrOf};
-ghost use Rattle.feed_lines.specs.Lines.{feed_text};
+ghost use Rattle.feed_lines.specs.Lines.{lines_of_track};
 ghost use Rattle.event_text.specs.Block.{fault_lines};
 ghost use Rattle.mse_engine.specs.State.{State};
 ghost use Rattle.mse_engine.specs.Standing.{Stands};
 ghost use Rattle.mse_outside.specs.Outside.{HasRisen};
+ghost use Rattle.script_run.specs.Text.{line_if_any};
 ghost use Rattle.script_run.specs.Writes.{IsWritten, IsFrontWritten};
 ghost use Rattle.mse_commands.specs.Feeds.{feed_closing, feeds_in, tracks_in};
 
@@ -49,10 +50,10 @@ fn put_track<S: FrameStore, K: Sink>(
 ) -> Result<(), Halt>
     ensures ok { (st : State) → Stands engine.now st
         → OnOk result (IfSome (slice_get (tracks_in st) i)
-        (λ t. IsWritten (feed_text at t) (K.written sink.old) (K.written sink.new))) }
+        (λ t. IsWritten (lines_of_track at t) (K.written sink.old) (K.written sink.new))) }
     ensures err { (st : State) → Stands engine.now st
         → OnErr result (IfSome (slice_get (tracks_in st) i)
-        (λ t. IsFrontWritten (feed_text at t) (K.written sink.old) (K.written sink.new))) }
+        (λ t. IsFrontWritten (lines_of_track at t) (K.written sink.old) (K.written sink.new))) }
     ensures no_fewer_faults { K.faults sink.old ≤ K.faults sink.new }
     ensures cause { IsErrOf result Halt.Write → HasRisen (K.faults sink.old) (K.faults sink.new) }
     ensures failures_told { ¬ IsErrOf result Halt.Write → K.faults sink.new ≡ K.faults sink.old }
@@ -66,6 +67,7 @@ fn put_track<S: FrameStore, K: Sink>(
 }
 
 /// Puts the lines of each track from a time on.
+#[tactic(auto, using(script_run::proofs::PutLines::front_none))]
 fn put_tracks<S: FrameStore, K: Sink>(
     alloc: Global,
     engine: &Engine<S>,
@@ -93,11 +95,12 @@ fn put_tracks<S: FrameStore, K: Sink>(
 }
 
 /// Puts the line of the first fault, if there is one.
+#[tactic(auto, using(script_run::proofs::PutLines::front_none))]
 fn put_fault<K: Sink>(alloc: Global, sink: &mut K, fault: Option<FaultView>) -> Result<(), Halt>
-    ensures ok { OnOk result (IsWritten (fault_lines fault) (K.written sink.old)
+    ensures ok { OnOk result (IsWritten (line_if_any (fault_lines fault)) (K.written sink.old)
         (K.written sink.new)) }
-    ensures err { OnErr result (IsFrontWritten (fault_lines fault) (K.written sink.old)
-        (K.written sink.new)) }
+    ensures err { OnErr result (IsFrontWritten (line_if_any (fault_lines fault))
+        (K.written sink.old) (K.written sink.new)) }
     ensures no_fewer_faults { K.faults sink.old ≤ K.faults sink.new }
     ensures cause { IsErrOf result Halt.Write → HasRisen (K.faults sink.old) (K.faults sink.new) }
     ensures failures_told { ¬ IsErrOf result Halt.Write → K.faults sink.new ≡ K.faults sink.old }

@@ -38,7 +38,7 @@ pub fn one_block()
         (s t : RunOutcome) (x y : Status) → AreNamesOfOneFile files a b bytes
         → length bytes < 2 ^ 62
         → IsThroughWith files a before s x → IsThroughWith files b before t y
-        → (x ≡ y) × (s.now.written ≡ t.now.written) }
+        → (x ≡ y) × (s.now.written.bytes ≡ t.now.written.bytes) }
 {}
 
 /// Bytes behind the first fault change nothing of what is printed.

@@ -13,6 +13,7 @@ mod feeds;
 mod file;
 pub mod laws;
 mod load;
+pub mod program_laws;
 mod remux_fault;
 mod remuxing;
 mod text;

@@ -1,7 +1,6 @@
 //! A classic file as fragments.
 
-ghost use Rattle.std.specs.Prelude.{◌≡◌, ◌≤◌, ℕ, List, [], None, Some, IfOk, OnOk, OnErr, IsErrAnd, IsErrOf, is_err};
-ghost use Rattle.std.specs.List.{flat_map};
+ghost use Rattle.std.specs.Prelude.{◌≡◌, ◌≤◌, ℕ, List, [], ◌∷◌, None, Some, IfOk, OnOk, OnErr, IsErrAnd, IsErrOf, is_err};
 ghost use Rattle.listeners.specs.declared.listener.Note.{Note};
 ghost use Rattle.mse_calls.specs.declared.rules.Rule.{Rule};
 ghost use Rattle.mse_outside.specs.Outside.{HasRisen};
@@ -10,7 +9,7 @@ ghost use Rattle.script_run.specs.Writes.{IsWritten, IsFrontWritten};
 ghost use Rattle.mse_commands.specs.Loads.{IsEndOfFailedLoad};
 ghost use Rattle.mse_commands.specs.Requests.{HasRequestOfCommand};
 ghost use Rattle.mse_commands.specs.Outcomes.{outcome, outside_of};
-ghost use Rattle.mse_commands.specs.Remuxing.{remux_fault_line, remux_text};
+ghost use Rattle.mse_commands.specs.Remuxing.{remux_fault_line, remux_pieces};
 ghost use Rattle.mse_commands.specs.Works.{IsRequestDone};
 
 use crate::ending::End;
@@ -25,10 +24,8 @@ use std::alloc::Global;
 
 /// Makes the pieces of a fragmented file one by one, and puts each with one put.
 fn put_pieces<K: Sink>(sink: &mut K, file: &FragmentedFile<'_>) -> Result<(), Halt>
-    ensures ok { OnOk result (IsWritten (flat_map (λ piece. piece) file.now)
-        (K.written sink.old) (K.written sink.new)) }
-    ensures err { OnErr result (IsFrontWritten (flat_map (λ piece. piece) file.now)
-        (K.written sink.old) (K.written sink.new)) }
+    ensures ok { OnOk result (IsWritten file.now (K.written sink.old) (K.written sink.new)) }
+    ensures err { OnErr result (IsFrontWritten file.now (K.written sink.old) (K.written sink.new)) }
     ensures no_fewer_faults { K.faults sink.old ≤ K.faults sink.new }
     ensures cause { IsErrOf result Halt.Write → HasRisen (K.faults sink.old) (K.faults sink.new) }
     ensures failures_told { ¬ IsErrOf result Halt.Write → K.faults sink.new ≡ K.faults sink.old }
@@ -46,11 +43,10 @@ fn put_pieces<K: Sink>(sink: &mut K, file: &FragmentedFile<'_>) -> Result<(), Ha
 }
 
 /// Puts a classic file as fragments.
+#[tactic(auto, using(script_run::proofs::PutLines::front_none))]
 fn put_fragmented<K: Sink>(alloc: Global, sink: &mut K, file: &ClassicFile) -> Result<(), Halt>
-    ensures ok { OnOk result (IsWritten (flat_map (λ piece. piece) file.now)
-        (K.written sink.old) (K.written sink.new)) }
-    ensures err { OnErr result (IsFrontWritten (flat_map (λ piece. piece) file.now)
-        (K.written sink.old) (K.written sink.new)) }
+    ensures ok { OnOk result (IsWritten file.now (K.written sink.old) (K.written sink.new)) }
+    ensures err { OnErr result (IsFrontWritten file.now (K.written sink.old) (K.written sink.new)) }
     ensures no_fewer_faults { K.faults sink.old ≤ K.faults sink.new }
     ensures cause { IsErrOf result Halt.Write → HasRisen (K.faults sink.old) (K.faults sink.new) }
     ensures failures_told { ¬ IsErrOf result Halt.Write → K.faults sink.new ≡ K.faults sink.old }
@@ -62,15 +58,16 @@ fn put_fragmented<K: Sink>(alloc: Global, sink: &mut K, file: &ClassicFile) -> R
 }
 
 /// Puts the line of a fault.
+#[tactic(auto, using(script_run::proofs::PutLines::front_none))]
 fn put_fault<K: Sink>(
     alloc: Global,
     sink: &mut K,
     fault: RemuxFault,
     offset: u64,
 ) -> Result<(), Halt>
-    ensures ok { OnOk result (IsWritten (remux_fault_line fault offset)
+    ensures ok { OnOk result (IsWritten (remux_fault_line fault offset ∷ [])
         (K.written sink.old) (K.written sink.new)) }
-    ensures err { OnErr result (IsFrontWritten (remux_fault_line fault offset)
+    ensures err { OnErr result (IsFrontWritten (remux_fault_line fault offset ∷ [])
         (K.written sink.old) (K.written sink.new)) }
     ensures no_fewer_faults { K.faults sink.old ≤ K.faults sink.new }
     ensures cause { IsErrOf result Halt.Write → HasRisen (K.faults sink.old) (K.faults sink.new) }
@@ -83,11 +80,12 @@ fn put_fault<K: Sink>(
 }
 
 /// Puts a file as fragments, or the line of its fault. It answers whether it has one.
+#[tactic(auto, using(script_run::proofs::PutLines::front_none))]
 fn put_remuxed<K: Sink>(alloc: Global, sink: &mut K, file: Vec<u8>) -> Result<bool, Halt>
     ensures ok { IfOk result (λ broken. broken ≡ is_err (pieces_of_file file.items)) }
-    ensures wrote { OnOk result (IsWritten (remux_text file.items)
+    ensures wrote { OnOk result (IsWritten (remux_pieces file.items)
         (K.written sink.old) (K.written sink.new)) }
-    ensures err { OnErr result (IsFrontWritten (remux_text file.items)
+    ensures err { OnErr result (IsFrontWritten (remux_pieces file.items)
         (K.written sink.old) (K.written sink.new)) }
     ensures no_fewer_faults { K.faults sink.old ≤ K.faults sink.new }
     ensures cause { IsErrOf result Halt.Write → HasRisen (K.faults sink.old) (K.faults sink.new) }

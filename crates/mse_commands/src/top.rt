@@ -1,13 +1,16 @@
 //! The top call.
 
-ghost use Rattle.std.specs.Prelude.{◌≡◌, ◌≢◌, ◌≤◌, ◌<◌, ◌⊎◌, ◌^◌, ℕ, [], None, IfSome, map, string_bytes, vec_len};
+ghost use Rattle.std.specs.Prelude.{◌≡◌, ◌≢◌, ◌≤◌, ◌<◌, ◌⊎◌, ◌^◌, ℕ, List, [], None, Some, IfSome, Ok, map, string_bytes, vec_len};
+ghost use Rattle.call_script.specs.declared.script.Script.{Script};
 ghost use Rattle.listeners.specs.Dispatch.{notes_at};
-ghost use Rattle.listeners.specs.Ways.{AreByWay};
+ghost use Rattle.listeners.specs.Ways.{AreByWay, Way};
 ghost use Rattle.mse_outside.specs.Outside.{HasRisen};
-ghost use Rattle.mse_commands.specs.Requests.{HasRequestOfWords, request_in};
+ghost use Rattle.mse_commands.specs.Requests.{ByScript, HasRequestOfWords, request_in};
 ghost use Rattle.mse_commands.specs.Complete.{IsCutAnywhere, IsComplete};
+ghost use Rattle.mse_commands.specs.Ends.{IsJournalBy, IsOutputBy};
 ghost use Rattle.mse_commands.specs.Loads.{failures};
 ghost use Rattle.mse_commands.specs.Outcomes.{IsEndOfRun, outcome_at};
+ghost use Rattle.mse_commands.specs.Program.{played, program_of};
 ghost use Rattle.mse_commands.specs.Says.{IsEndSaid, IsLineSaid};
 ghost use Rattle.mse_commands.specs.Words.{command_of};
 
@@ -23,6 +26,7 @@ use std::alloc::Global;
 use track_store::FrameStore;
 
 /// Puts the line of an end.
+#[tactic(auto, using(script_run::proofs::PutLines::front_none))]
 fn say_line<K: Sink>(alloc: Global, sink: &mut K, end: &End) -> Status
     ensures said { IsLineSaid end.now (K.written sink.old) (K.written sink.new) result }
     ensures write { result ≡ Status.Write
@@ -64,7 +68,12 @@ fn say<K: Sink>(alloc: Global, sink: &mut K, end: &End) -> Status
 /// and all that comes after it. `remux FILE` writes a classic file as a fragmented one, of which the
 /// initialization segment and each media segment is a put of its own; it makes no engine. All that
 /// happened stands in the journal, and the engine is as it was left. Coded frames are kept
-/// in a store of type `S`. Each listener stays at its place, and did what its way gives.
+/// in a store of type `S`. Each listener stays at its place, and did what its way gives where it tells
+/// one.
+///
+/// Where the library tells its files, no load and no put fails, and the listeners tell their ways, the
+/// status and what is written are those of a function of the ways, the files and the words (`program_of`);
+/// or there is no memory, and a front of that is written.
 ///
 /// A failed put is told by the status `Write`. A failed load is told by `Read`, unless memory is
 /// wanting for that line, or the sink fails to take it.
@@ -94,6 +103,19 @@ pub fn run<S: FrameStore, L: Library, K: Sink>(
         (failures (K.faults sink.old) (K.faults sink.new)) result) }
     ensures cuts { IfSome (L.table library.old) (λ files.
         IsCutAnywhere (request_in files (map string_bytes words.now)) journal.new.entries result) }
+    ensures program { IfSome (L.table library.old) (λ files. (ways : List Way)
+        → map (λ b. way b) listeners.old.items ≡ map (λ way. Some way) ways
+        → ¬ HasRisen (L.faults library.old) (L.faults library.new)
+        → ¬ HasRisen (K.faults sink.old) (K.faults sink.new)
+        → IsOutputBy (program_of ways files (map string_bytes words.now))
+        (K.written sink.old) (K.written sink.new) result) }
+    ensures program_journal { IfSome (L.table library.old) (λ files. (ways : List Way)
+        (script : Script) (blobs : List (List ℕ))
+        → (request_in files (map string_bytes words.now)).task ≡ Ok (ByScript script blobs)
+        → map (λ b. way b) listeners.old.items ≡ map (λ way. Some way) ways
+        → ¬ HasRisen (L.faults library.old) (L.faults library.new)
+        → ¬ HasRisen (K.faults sink.old) (K.faults sink.new)
+        → IsJournalBy (played ways script blobs).entries journal.new.entries result) }
     ensures count { vec_len listeners.new ≡ vec_len listeners.old }
     ensures kinds { map (λ b. b.vtable) listeners.new.items
         ≡ map (λ b. b.vtable) listeners.old.items }

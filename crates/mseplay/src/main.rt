@@ -6,7 +6,8 @@
 //! listeners by rules, and the store of `track_index`. It ends with the number of the status.
 #![tactic(auto)]
 
-ghost use Rattle.std.specs.Prelude.{◌≡◌, [], IfOk};
+ghost use Rattle.std.specs.Prelude.{◌≡◌, [], Some, IfOk};
+ghost use Rattle.listeners.specs.RuleCalls.{next_call};
 
 use listeners::{Listener, RuleListener};
 use mse_base::OutOfMemory;
@@ -22,6 +23,8 @@ use std::process::ExitCode;
 use track_index::IndexStore;
 
 /// The arguments after the program's name. Arguments that are no text are no words.
+///
+/// What the system hands out is in no contract, so none can say here which words these are.
 fn arguments(rt: &HostRuntime) -> Result<Vec<String>, OutOfMemory> {
     let mut words = Vec::new(rt.alloc());
     match env::args(rt) {
@@ -39,9 +42,12 @@ fn arguments(rt: &HostRuntime) -> Result<Vec<String>, OutOfMemory> {
     Ok(words)
 }
 
-/// A listener by rules that has heard nothing.
+/// A listener by rules, which has none yet and has heard nothing.
 fn listener(alloc: Global) -> Result<Box<RuleListener>, OutOfMemory>
-    ensures { IfOk result (λ b. ⟦<RuleListener as Listener>⟧.notes b.value ≡ []) }
+    ensures by_rules { IfOk result (λ b.
+        ⟦<RuleListener as Listener>⟧.way b.value ≡ Some next_call) }
+    ensures no_rules { IfOk result (λ b. ⟦<RuleListener as Listener>⟧.rules b.value ≡ []) }
+    ensures no_notes { IfOk result (λ b. ⟦<RuleListener as Listener>⟧.notes b.value ≡ []) }
 {
     Ok(Box::new(alloc, RuleListener::new(alloc))?)
 }
