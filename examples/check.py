@@ -1,52 +1,150 @@
 #!/usr/bin/env python3
-"""Tries every file and script of this folder, and what the documents say that the program prints.
+"""Tries the cases of crates/case_runs/data, and what the documents say that the program prints.
 
     check.py PROGRAM [--store]
 
-PROGRAM is crates/mseplay/out/mseplay, as `rt run` leaves it. Each line of runs.txt has a status, the name of the file
-that has what is printed, and the words. A block of a document whose first line begins with `$ mseplay` has what these words
-print in this folder; a line `...` in it stands for any lines, and `> NAME` behind the words makes a file for the blocks
-below. Each file of this folder is named in README.md.
+PROGRAM is crates/mseplay/out/mseplay, as `rt run` leaves it. README.md says what a line of cases.txt is. Puts and loads
+that fail are tried by crates/case_runs alone, which has a sink and a library for it. A block of a document whose first
+line begins with `$ mseplay` has what these words print in that folder; a line `...` in it stands for any lines, and
+`> NAME` behind the words makes a file for the blocks below. Each file of that folder has a row in README.md, or a line
+of cases.txt.
 
---store writes the texts anew, and with them the tests of the gate.
+--store writes the texts anew.
 """
 import glob
 import os
 import re
+import shutil
 import subprocess
 import sys
 import tempfile
+from concurrent.futures import ThreadPoolExecutor
 
 HERE = os.path.dirname(os.path.abspath(__file__))
 TOP = os.path.dirname(HERE)
-TESTS = os.path.join(TOP, "crates", "command_tests", "src", "tests", "example_runs")
-STATUSES = {0: "Ok", 2: "Script", 6: "CallBudget", 7: "TaskBudget", 8: "NoFile", 9: "Media"}
+DATA = os.path.join(TOP, "crates", "case_runs", "data")
+# the status of a run whose block tells a fault
+MEDIA = 9
 
 
-def runs():
-    with open("runs.txt") as lines:
+def cases():
+    """The status, the way, the text's name and the words of each line."""
+    with open(os.path.join(DATA, "cases.txt"), encoding="utf-8") as lines:
         for line in lines:
             if line.strip() and not line.startswith("#"):
-                status, name, *words = line.split()
-                yield int(status), name, words
+                status, way, text, *words = line.split()
+                yield int(status), way, text, [word.replace("␣", " ") for word in words]
 
 
-def printed(program, words):
-    run = subprocess.run([program, *words], stdout=subprocess.PIPE)
+def read(name, folder=DATA):
+    with open(os.path.join(folder, name), "rb") as file:
+        return file.read()
+
+
+def printed(program, words, folder=DATA):
+    run = subprocess.run([program, *words], cwd=folder, stdout=subprocess.PIPE)
     return run.returncode, run.stdout
 
 
-def try_runs(program, stores):
-    for status, name, words in runs():
-        ended, text = printed(program, words)
-        if stores:
-            with open(name, "wb") as out:
-                out.write(text)
-        with open(name, "rb") as stored:
-            if text != stored.read():
-                yield f"{' '.join(words)} prints something else than {name}"
-        if ended != status:
-            yield f"{' '.join(words)} ends with {ended} and not with {status}"
+def printed_of_script(program, words, script):
+    """What is printed where the script that the words play has another text."""
+    with tempfile.NamedTemporaryFile(suffix=".toml") as file:
+        file.write(script)
+        file.flush()
+        return printed(program, [words[0], file.name, *words[2:]])
+
+
+def repeated(script, count):
+    lines = script.decode().splitlines(keepends=True)
+    return "".join(line * (count if line.endswith("# repeat\n") else 1) for line in lines).encode()
+
+
+def is_as_wanted(program, way, words):
+    """What the words of a line print that is tried once."""
+    if way in ("run", "indexed"):
+        return printed(program, words)
+    return printed_of_script(program, words, repeated(read(words[1]), int(way.partition("=")[2])))
+
+
+def try_once(program, status, way, text, words, stores):
+    ended, found = is_as_wanted(program, way, words)
+    if stores:
+        with open(os.path.join(DATA, text), "wb") as out:
+            out.write(found)
+    if found != read(text):
+        yield f"prints something else than {text}"
+    if ended != status:
+        yield f"ends with {ended} and not with {status}"
+
+
+def closing(text):
+    return text.rpartition(b" error ")[2]
+
+
+def try_cuts(program, status, text, words):
+    """The script's first append of a part of a blob is cut at each byte: the run closes with the same block."""
+    script = read(words[1]).decode()
+    append = re.search(r'"append (\d+) (\d+) (\d+) (\d+)"', script)
+    buffer, blob, first, length = map(int, append.groups())
+    for at in range(length + 1):
+        steps = f'"append {buffer} {blob} {first} {at}", "drain", "append {buffer} {blob} {first + at} {length - at}"'
+        cut = script[:append.start()] + steps + script[append.end():]
+        ended, found = printed_of_script(program, words, cut.encode())
+        if ended != status or closing(found) != closing(read(text)):
+            yield f"closes with another block than {text}, cut at {at}"
+
+
+def rows_of(table):
+    """The shortest and the longest front part, the byte from which the bytes held are counted, and the block."""
+    for row in re.split(r"^bytes ", table, flags=re.M)[1:]:
+        numbers, _, block = row.partition("\n")
+        yield (*map(int, numbers.split()), block)
+
+
+def try_fronts(program, name, text, words, folder):
+    """A file is cut at each byte. The rows of the table follow each other, from 0 to its length."""
+    content, following = read(name), 0
+    for shortest, longest, base, block in rows_of(read(text).decode()):
+        if shortest != following:
+            yield f"{text} has no row of {following} bytes"
+        following = longest + 1
+        for length in range(shortest, longest + 1):
+            with open(os.path.join(folder, name), "wb") as out:
+                out.write(content[:length])
+            ended, found = printed(program, words, folder)
+            wanted = block.replace("*", str(length - base)).encode()
+            status = MEDIA if b"\nfault " in wanted and words[0] != "play" else 0
+            is_wanted = found.endswith(wanted) if words[0] == "play" else found == wanted
+            if ended != status or not is_wanted:
+                yield f"prints something else than {text} at {length} bytes"
+    if following != len(content) + 1:
+        yield f"{text} has no row of {len(content)} bytes"
+
+
+def try_fronts_apart(program, name, text, words):
+    with tempfile.TemporaryDirectory() as room:
+        folder = os.path.join(room, "data")
+        shutil.copytree(DATA, folder)
+        yield from try_fronts(program, name, text, words, folder)
+
+
+def try_case(program, status, way, text, words, stores):
+    kind, _, value = way.partition("=")
+    if kind in ("run", "indexed", "repeat"):
+        found = try_once(program, status, way, text, words, stores)
+    elif kind == "cut":
+        found = try_cuts(program, status, text, words)
+    elif kind == "fronts":
+        found = try_fronts_apart(program, value, text, words)
+    else:
+        found = []
+    return [f"{way} {' '.join(words)} {fault}" for fault in found]
+
+
+def try_cases(program, stores):
+    with ThreadPoolExecutor(os.cpu_count()) as pool:
+        for faults in pool.map(lambda case: try_case(program, *case, stores), cases()):
+            yield from faults
 
 
 # the runs that a document tells, each as its words and the lines below them
@@ -80,90 +178,36 @@ def told_text(program, words, made):
 
 
 def try_documents(program, made):
-    for document in [*glob.glob(f"{TOP}/*.md"), *glob.glob(f"{TOP}/docs/*.md"), "README.md"]:
+    readme = os.path.join(HERE, "README.md")
+    for document in [*glob.glob(f"{TOP}/*.md"), *glob.glob(f"{TOP}/docs/*.md"), readme]:
         for words, told in told_runs(document):
             if not is_told(told_text(program, words, made), told):
                 yield f"{os.path.relpath(document, TOP)}: {' '.join(words)} prints something else"
 
 
 def try_names():
-    with open("README.md") as readme:
+    with open(os.path.join(HERE, "README.md")) as readme:
         named = set(re.findall(r"`([^`\s]+)`", readme.read()))
-    texts = {name for _, name, _ in runs()}
-    tried = {word for _, _, words in runs() for word in words}
-    for name in sorted(os.listdir(".")):
-        if name not in {*named, *texts, "README.md"}:
-            yield f"README.md does not name {name}"
-        if name.endswith((".toml", ".mp4", ".m4a", ".bin")) and name not in tried:
-            yield f"no line of runs.txt tries {name}"
-
-
-# the tables are written for the compiler, a line for each text: who reads them reads the files of this folder
-def digits(content):
-    return f'"{content.hex()}"'
-
-
-def literal(content):
-    return '"' + content.decode().replace("\\", "\\\\").replace('"', '\\"').replace("\n", "\\n") + '"'
-
-
-def table(about, name, kind, rows):
-    items = "".join(f"    ({row}),\n" for row in rows)
-    return f"/// {about}\n#[rattlefmt::skip]\npub const {name}: [{kind}; {len(rows)}] = [\n{items}];\n"
-
-
-# long files that no script names are tried here alone, since the gate proves its tests and long constants take long
-def is_in_gate(words):
-    named = {name for script in glob.glob("*.toml") for name in re.findall(r'"file ([^"]+)"', open(script).read())}
-    return all(word in named or not os.path.exists(word) or os.path.getsize(word) < 10000 for word in words)
-
-
-# the tables of the gate's tests: the files, the runs without a script, and the scripts with what is printed of them
-def tables():
-    tried = [(status, text, words) for status, text, words in runs() if is_in_gate([text, *words])]
-    read = {name: open(name, "rb").read() for _, text, words in tried for name in [text, *words] if os.path.exists(name)}
-    files = [name for name in sorted(read) if not name.endswith((".toml", ".txt"))]
-    scripts = sorted((words[1], text) for _, text, words in tried if words[0] == "play")
-    for name, about, of_file in [
-        ("FILES", "Small files by name, as digits of base 16.", lambda name: len(read[name]) < 2000),
-        ("LARGE_FILES", "The others.", lambda name: len(read[name]) >= 2000),
-    ]:
-        yield name, table(about, name, "(&str, &str)", [f'"{file}", {digits(read[file])}' for file in files if of_file(file)])
-    yield "RUNS", "use mse_commands::Status;\n\n" + table(
-        "The words of a run, its status, and what it prints.", "RUNS", "(&str, Status, &str)",
-        [f'"{" ".join(words)}", Status::{STATUSES[status]}, {literal(read[text])}'
-         for status, text, words in tried if words[0] != "play" and text.endswith(".txt")])
-    for name, of_script in [
-        ("SCRIPTS_TO_L", lambda name: name < "m"),
-        ("SCRIPTS_FROM_M", lambda name: name >= "m"),
-    ]:
-        yield name, table("A script and what is printed of it, by name.", name, "(&str, &str, &str)",
-                          [f'"{script}", {literal(read[script])}, {literal(read[text])}'
-                           for script, text in scripts if of_script(script)])
-
-
-def try_tests(stores):
-    if not os.path.isdir(TESTS):
-        return
-    for name, text in tables():
-        text = "//! Of examples/, written by examples/check.py.\n\n" + text
-        name = name.lower() + ".rt"
-        path = os.path.join(TESTS, name)
-        if stores:
-            with open(path, "w") as out:
-                out.write(text)
-        if not os.path.exists(path) or open(path).read() != text:
-            yield f"crates/command_tests/src/tests/example_runs/{name} has something else"
+    tried = {"cases.txt"}
+    for _, way, text, words in cases():
+        tried |= {text, *words, way.partition("=")[2]}
+    for script in {name for name in tried if name.endswith(".toml")}:
+        tried |= set(re.findall(r'"file ([^"]+)"', read(script).decode(errors="replace")))
+    for folder, _, names in os.walk(DATA):
+        for path in sorted(os.path.relpath(os.path.join(folder, name), DATA) for name in names):
+            if path not in tried:
+                yield f"no line of cases.txt tries {path}"
+            if "/" not in path and path not in named and not path.endswith(".txt"):
+                yield f"README.md does not name {path}"
 
 
 def main():
     if len(sys.argv) < 2:
         sys.exit(__doc__)
     program, stores = os.path.realpath(sys.argv[1]), "--store" in sys.argv
-    os.chdir(HERE)
     with tempfile.TemporaryDirectory() as made:
-        faults = [*try_runs(program, stores), *try_documents(program, made), *try_names(), *try_tests(stores)]
-    print("\n".join([*faults, f"{len(list(runs()))} runs, {len(faults)} faults"]))
+        faults = [*try_cases(program, stores), *try_documents(program, made), *try_names()]
+    print("\n".join([*faults, f"{len(list(cases()))} cases, {len(faults)} faults"]))
     sys.exit(1 if faults else 0)
 
 

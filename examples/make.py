@@ -1,14 +1,15 @@
 #!/usr/bin/env python3
-"""Writes the files of this folder that no packager made.
+"""Writes the files right in crates/case_runs/data that no packager made.
 
     make.py [FOLDER]
 
-FOLDER is this one where it is left out. The samples have bytes of 0 alone, since nothing is decoded.
+FOLDER is that one where it is left out. The samples have bytes of 0 alone, since nothing is decoded.
 """
 import os
 import struct
 import sys
 
+HERE = os.path.dirname(os.path.abspath(__file__))
 SYNC, OTHER = 0x02000000, 0x01010000
 # five pictures in order of decoding: how many pictures later than it is decoded each is shown, two added to all
 GROUP = [2, 5, 2, 0, 1]
@@ -164,7 +165,7 @@ FILES = {
 
 
 def main():
-    folder = sys.argv[1] if len(sys.argv) > 1 else os.path.dirname(os.path.abspath(__file__))
+    folder = sys.argv[1] if len(sys.argv) > 1 else os.path.join(HERE, "..", "crates", "case_runs", "data")
     for name, content in FILES.items():
         with open(os.path.join(folder, name), "wb") as out:
             out.write(content)

@@ -3,7 +3,7 @@
 //!
 //! An allocation is refused from outside, by `rt try --test --fail-alloc` or by `bench/refused.py` of the repository.
 
-use super::files::PLAIN;
+use bmff_write::make as make_file;
 use call_script::{BlobText, Script, StepLine, read_script};
 use event_text::{closing, line_of};
 use mse_base::{Bytes, OutOfMemory, Text, Ticks};
@@ -14,13 +14,14 @@ use std::process::Abort;
 use std::test::Fail;
 use track_store::ListStore;
 
-/// Each call, with effect, and a fault at the end.
+/// Each call, with effect, and a fault at the end. The file has an initialization segment of 595 bytes, and one of 30
+/// frames in a second, of which the first ends at 1179.
 const SCRIPT: &str = "\
-    blobs = [\"file plain.mp4\", \"hex fff15080015ffc000000fff15080015ffc000000\", \"hex 0000000766726565\"]\n\
+    blobs = [\"file made.mp4\", \"hex fff15080015ffc000000fff15080015ffc000000\", \"hex 0000000766726565\"]\n\
     steps = [\"attach\", \"live 0 1/1\", \"clearlive\", \"add video/mp4\", \"add audio/aac\",\n\
-        \"duration 10/1\", \"seekable\", \"windowstart 0 0\", \"windowend 0 9/1\", \"append 0 0 0 745\",\n\
+        \"duration 10/1\", \"seekable\", \"windowstart 0 0\", \"windowend 0 9/1\", \"append 0 0 0 1185\",\n\
         \"work 0\", \"fire\", \"append 1 1\", \"work 1\", \"abort 0\", \"drain\", \"mode 0 sequence\",\n\
-        \"offset 0 1/10\", \"append 0 0 595 156\", \"drain\", \"elementbuffered\", \"seek 1/50\",\n\
+        \"offset 0 1/10\", \"append 0 0 595 1161\", \"drain\", \"elementbuffered\", \"seek 1/50\",\n\
         \"element\", \"play\", \"advance 1/100\", \"pause\", \"drain\", \"state\", \"remove 0 0 1/30\",\n\
         \"drain\", \"buffered 0\", \"changetype 1 audio/mp4\", \"removebuffer 1\", \"endofstream\",\n\
         \"append 0 2\", \"drain\"]\n";
@@ -36,7 +37,7 @@ const PRINTS: &str = "\
     call seekable: range [0,1411200000000]\n\
     call windowstart 0 0: done\n\
     call windowend 0 1270080000000: done\n\
-    call append 0 0 0 745: done\n\
+    call append 0 0 0 1185: done\n\
     event source sourceopen\n\
     call append 1 1: done\n\
     call abort 0: done\n\
@@ -56,7 +57,7 @@ const PRINTS: &str = "\
     event buffer 1 updateend\n\
     call mode 0 sequence: done\n\
     call offset 0 14112000000: done\n\
-    call append 0 0 595 156: done\n\
+    call append 0 0 595 1161: done\n\
     event buffer 0 updatestart\n\
     event buffer 0 update\n\
     event buffer 0 updateend\n\
@@ -78,7 +79,7 @@ const PRINTS: &str = "\
     event buffer 0 updatestart\n\
     event buffer 0 update\n\
     event buffer 0 updateend\n\
-    call buffered 0: ranges [14112000000,28224000000)\n\
+    call buffered 0: ranges [14112000000,155232000000)\n\
     call changetype 1 audio/mp4: done\n\
     call removebuffer 1: done\n\
     call endofstream: done\n\
@@ -93,11 +94,11 @@ const PRINTS: &str = "\
     event buffer 0 updateend\n\
     event source sourceended\n\
     event element error\n\
-    state source ended duration 28224000000 level 1 position 4233600000 paused true seeking false error 3\n\
-    duration 28224000000\n\
-    buffer 0 phase waiting held 0 used 12 buffered [14112000000,28224000000)\n\
-    track 0 1 video avc1 frames 3 ranges [14112000000,28224000000)\n\
-    fault 2 BoxSize buffer 0 at 156\n";
+    state source ended duration 155232000000 level 1 position 4233600000 paused true seeking false error 3\n\
+    duration 155232000000\n\
+    buffer 0 phase waiting held 0 used 585 buffered [14112000000,155232000000)\n\
+    track 0 1 video avc1 frames 30 ranges [14112000000,155232000000)\n\
+    fault 2 BoxSize buffer 0 at 1161\n";
 
 /// An engine at work, and what was printed so far.
 #[derive(Drop)]
@@ -267,19 +268,12 @@ fn script(alloc: Global) -> Result<Script, OutOfMemory> {
     }
 }
 
-fn plain_once(alloc: Global) -> Result<Bytes, OutOfMemory> {
-    match hex::decode(alloc, PLAIN) {
-        Ok(bytes) => Bytes::from_vec(alloc, bytes),
-        Err(_) => Err(OutOfMemory),
-    }
-}
-
 fn blobs_once(alloc: Global, script: &Script) -> Result<Blobs, OutOfMemory> {
     let mut blobs = Blobs::new(alloc);
     for blob in script.blobs.as_slice() {
         let bytes = match blob {
             BlobText::Hex(bytes) => bytes.copy()?,
-            BlobText::File(_) => plain_once(alloc)?,
+            BlobText::File(_) => make_file(alloc, 1)?,
         };
         blobs.push(bytes)?;
     }

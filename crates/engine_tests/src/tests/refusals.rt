@@ -1,165 +1,286 @@
 //! The refusals that are asked for before a call, beside those that the call then answers.
 
-use mse_base::{Bytes, Moment, OutOfMemory, Text, Ticks};
-use mse_calls::{Answer, Blobs, Call, Mode, Name, Piece};
+use Refusal::{Late, Not, Told};
+use call_script::{BlobText, Script, StepLine, read_script};
+use mse_base::Ticks;
+use mse_calls::{Answer, Blobs, Call, Name};
 use mse_engine::Engine;
-use std::alloc::Global;
+use std::alloc::{AllocError, Global};
 use std::process::Abort;
 use std::test::Fail;
 use track_store::ListStore;
 
-/// A frame of ten bytes, with 48000 samples in a second.
-const FRAME: [u8; 10] = [0xff, 0xf1, 0x4c, 0x80, 0x01, 0x5f, 0xfc, 0, 0, 0];
+/// Whether a call is refused.
+#[derive(Clone, Copy)]
+enum Refusal {
+    /// It is not.
+    Not,
+    /// It is, by this name, and this is told before the call.
+    Told(Name),
+    /// It is, by this name, and nothing is told before the call.
+    Late(Name),
+}
 
-/// The whole of the one blob that there is.
-const WHOLE: Piece = Piece {
-    blob: 0,
-    part: None,
-};
+/// A step line, and whether it is refused.
+type Row = (&'static str, Refusal);
 
-/// An engine whose buffers hold one byte, with a blob of one frame.
+const INVALID_STATE: Refusal = Told(Name::InvalidState);
+
+const TYPE_ERROR: Refusal = Told(Name::TypeError);
+
+const OF_THE_SOURCE: [Row; 14] = [
+    ("add", TYPE_ERROR),
+    ("add audio/aac", INVALID_STATE),
+    ("duration inf", INVALID_STATE),
+    ("endofstream", INVALID_STATE),
+    ("live 0 1", INVALID_STATE),
+    ("attach", Not),
+    ("attach", INVALID_STATE),
+    ("add video/webm", Told(Name::NotSupported)),
+    ("duration nan", TYPE_ERROR),
+    ("duration -1", TYPE_ERROR),
+    ("live nan nan", TYPE_ERROR),
+    ("live 1 0", TYPE_ERROR),
+    ("removebuffer 0", Told(Name::NoSuchBuffer)),
+    ("clearlive", Not),
+];
+
+/// A buffer that was never made comes before a time, and a time before the bytes.
+const OF_TIMES_AND_BYTES: [Row; 9] = [
+    ("attach", Not),
+    ("add audio/aac", Not),
+    ("offset 1 nan", Told(Name::NoSuchBuffer)),
+    ("buffered 7", Told(Name::NoSuchBuffer)),
+    ("changetype 9", Told(Name::NoSuchBuffer)),
+    ("offset 0 nan", TYPE_ERROR),
+    ("append 0 3", Told(Name::NoSuchBytes)),
+    ("append 0 0 4 7", Told(Name::NoSuchBytes)),
+    ("append 0 0 4 6", Not),
+];
+
+const OF_AN_APPEND: [Row; 17] = [
+    ("attach", Not),
+    ("add audio/aac", Not),
+    ("append 0 0", Not),
+    ("append 0 0", INVALID_STATE),
+    ("mode 0 segments", INVALID_STATE),
+    ("mode 0 sequence", INVALID_STATE),
+    ("offset 0 0", INVALID_STATE),
+    ("windowstart 0 0", INVALID_STATE),
+    ("windowend 0 1", INVALID_STATE),
+    ("remove 0 0 1", INVALID_STATE),
+    ("changetype 0", TYPE_ERROR),
+    ("changetype 0 video/webm", INVALID_STATE),
+    ("duration 1", INVALID_STATE),
+    ("endofstream", INVALID_STATE),
+    ("drain", Not),
+    ("mode 0 segments", TYPE_ERROR),
+    ("changetype 0 video/webm", Told(Name::NotSupported)),
+];
+
+const OF_A_REMOVAL: [Row; 10] = [
+    ("attach", Not),
+    ("add audio/aac", Not),
+    ("remove 0 0 1", TYPE_ERROR),
+    ("append 0 0", Not),
+    ("drain", Not),
+    ("remove 0 5 5", TYPE_ERROR),
+    ("remove 0 nan 1", TYPE_ERROR),
+    ("remove 0 0 inf", Not),
+    ("abort 0", INVALID_STATE),
+    ("append 0 0", INVALID_STATE),
+];
+
+/// The second frame starts at 3010560000.
+const OF_FRAMES_THAT_ARE_THERE: [Row; 6] = [
+    ("attach", Not),
+    ("add audio/aac", Not),
+    ("append 0 2", Not),
+    ("drain", Not),
+    ("duration 3010559999", INVALID_STATE),
+    ("duration 3010560000", Not),
+];
+
+/// Where the source is ended, it is opened again before the call is refused.
+const OF_A_SEGMENT_THAT_HAS_BEGUN: [Row; 9] = [
+    ("attach", Not),
+    ("add audio/aac", Not),
+    ("append 0 0 0 8", Not),
+    ("drain", Not),
+    ("mode 0 sequence", INVALID_STATE),
+    ("offset 0 0", INVALID_STATE),
+    ("endofstream", Not),
+    ("mode 0 sequence", Late(Name::InvalidState)),
+    ("mode 0 sequence", INVALID_STATE),
+];
+
+/// That a buffer is full is not told before the call.
+const OF_A_FULL_BUFFER: [Row; 5] = [
+    ("attach", Not),
+    ("add audio/aac", Not),
+    ("append 0 0", Not),
+    ("drain", Not),
+    ("append 0 0", Late(Name::QuotaExceeded)),
+];
+
+const OF_A_REMOVED_BUFFER: [Row; 8] = [
+    ("attach", Not),
+    ("add audio/aac", Not),
+    ("removebuffer 0", Not),
+    ("buffered 0", INVALID_STATE),
+    ("append 0 0", INVALID_STATE),
+    ("abort 0", INVALID_STATE),
+    ("removebuffer 0", Told(Name::NotFound)),
+    ("changetype 0 audio/aac", INVALID_STATE),
+];
+
+const OF_SEVENTEEN_BUFFERS: [Row; 18] = [
+    ("attach", Not),
+    ("add audio/aac", Not),
+    ("add audio/aac", Not),
+    ("add audio/aac", Not),
+    ("add audio/aac", Not),
+    ("add audio/aac", Not),
+    ("add audio/aac", Not),
+    ("add audio/aac", Not),
+    ("add audio/aac", Not),
+    ("add audio/aac", Not),
+    ("add audio/aac", Not),
+    ("add audio/aac", Not),
+    ("add audio/aac", Not),
+    ("add audio/aac", Not),
+    ("add audio/aac", Not),
+    ("add audio/aac", Not),
+    ("add audio/aac", Not),
+    ("add audio/aac", Told(Name::QuotaExceeded)),
+];
+
+/// The bytes that are appended are no frame: the element has an error.
+const BEHIND_A_FAULT: [Row; 7] = [
+    ("attach", Not),
+    ("add audio/aac", Not),
+    ("append 0 1", Not),
+    ("drain", Not),
+    ("append 0 0", INVALID_STATE),
+    ("abort 0", INVALID_STATE),
+    ("play", Told(Name::NotSupported)),
+];
+
+const OF_THE_ELEMENT: [Row; 9] = [
+    ("attach", Not),
+    ("seek inf", TYPE_ERROR),
+    ("advance nan", TYPE_ERROR),
+    ("advance -1", TYPE_ERROR),
+    ("play", Not),
+    ("pause", Not),
+    ("seekable", Not),
+    ("elementbuffered", Not),
+    ("state", Not),
+];
+
+/// An engine at work.
 #[derive(Drop)]
-struct RefusalScene {
+struct Scene {
     engine: Engine<ListStore>,
     blobs: Blobs,
 }
 
-fn new_scene(alloc: Global) -> Result<RefusalScene, OutOfMemory> {
+/// What stands before the steps of a script. Buffers hold one byte. Blob 0 is an ADTS frame of 1024 samples, 48000 a
+/// second, and blob 2 are two of them.
+const HEAD: &str = "\
+    quota = 1\n\
+    blobs = [\"hex fff14c80015ffc000000\", \"hex 00000000000000\", \"hex fff14c80015ffc000000fff14c80015ffc000000\"]\n\
+    steps = [";
+
+/// A script of the lines.
+fn text_of(alloc: Global, rows: &[Row]) -> Result<String, AllocError> {
+    let mut text = String::from_str(alloc, HEAD)?;
+    for (line, _) in rows {
+        let step = format!(in alloc; "\"{line}\", ")?;
+        text.push_str(step.as_str())?;
+    }
+    text.push_str("]\n")?;
+    Ok(text)
+}
+
+fn script_of(alloc: Global, rows: &[Row]) -> Result<Script, Fail> {
+    let text = text_of(alloc, rows)?;
+    match read_script(alloc, text.as_bytes()) {
+        Ok(script) => Ok(script),
+        Err(_) => Err("no script")?,
+    }
+}
+
+fn scene_of(alloc: Global, script: &Script) -> Result<Scene, Fail> {
     let mut blobs = Blobs::new(alloc);
-    blobs.push(Bytes::copy_of(alloc, &FRAME)?)?;
-    Ok(RefusalScene {
-        engine: Engine::new(alloc, 1, Ticks::zero()),
+    for blob in script.blobs.as_slice() {
+        match blob {
+            BlobText::Hex(bytes) => blobs.push(bytes.copy()?)?,
+            BlobText::File(_) => return Err("no file")?,
+        }
+    }
+    Ok(Scene {
+        engine: Engine::new(alloc, script.quota, Ticks::zero()),
         blobs,
     })
 }
 
-/// What is asked for, and what the call then answers.
-fn refusals(scene: &mut RefusalScene, call: &Call) -> Result<(Option<Name>, Option<Name>), Fail> {
-    let asked = scene.engine.refusal(call, &scene.blobs);
-    match scene.engine.call(call, &scene.blobs) {
-        Ok(Answer::Refused(name)) => Ok((asked, Some(name))),
-        Ok(_) => Ok((asked, None)),
-        Err(_) => Err(Fail::new("memory")),
+/// What is told before a call, and what it then answers.
+fn refusals(scene: &mut Scene, call: &Call) -> Result<(Option<Name>, Option<Name>), Fail> {
+    let told = scene.engine.refusal(call, &scene.blobs);
+    match scene.engine.call(call, &scene.blobs)? {
+        Answer::Refused(name) => Ok((told, Some(name))),
+        _ => Ok((told, None)),
     }
 }
 
-/// An open source with one buffer of ADTS frames.
-fn open_scene(alloc: Global) -> Result<RefusalScene, Fail> {
-    let mut scene = new_scene(alloc)?;
-    refusals(&mut scene, &Call::Attach)?;
-    let kind = Text::copy_of(alloc, "audio/aac")?;
-    refusals(&mut scene, &Call::AddSourceBuffer(kind))?;
-    Ok(scene)
-}
-
-/// Works until nothing runs at the first buffer.
-fn drain(scene: &mut RefusalScene) -> Result<(), Fail> {
+/// Works until nothing runs.
+fn drain(scene: &mut Scene) -> Result<(), Fail> {
     for _ in 0..10 {
-        if scene.engine.work(0).is_err() {
-            return Err(Fail::new("memory"));
+        if let Some(k) = scene.engine.running() {
+            scene.engine.work(k)?;
         }
     }
     Ok(())
 }
 
-fn same(name: Name) -> (Option<Name>, Option<Name>) {
-    (Some(name), Some(name))
-}
-
-#[test]
-fn of_the_source(rt: HostRuntime) -> Result<(), Fail> {
-    let mut scene = new_scene(rt.alloc())?;
-    let empty = Text::copy_of(rt.alloc(), "")?;
-    let adding = Call::AddSourceBuffer(empty);
-    assert_eq!(rt; refusals(&mut scene, &adding)?, same(Name::TypeError));
-    assert_eq!(rt;
-        refusals(&mut scene, &Call::SetDuration(Moment::Infinite))?,
-        same(Name::InvalidState)
-    );
-    assert_eq!(rt; refusals(&mut scene, &Call::Attach)?, (None, None));
-    assert_eq!(rt;
-        refusals(&mut scene, &Call::Attach)?,
-        same(Name::InvalidState)
-    );
-    assert_eq!(rt;
-        refusals(
-            &mut scene,
-            &Call::SetLiveSeekableRange(Moment::Nan, Moment::Nan)
-        )?,
-        same(Name::TypeError)
-    );
-    assert_eq!(rt;
-        refusals(&mut scene, &Call::RemoveSourceBuffer(0))?,
-        same(Name::NoSuchBuffer)
-    );
-    Ok(())
-}
-
-/// A buffer that was never made comes before a time, and a time before the bytes.
-#[test]
-fn of_times_and_bytes(rt: HostRuntime) -> Result<(), Fail> {
-    let mut scene = open_scene(rt.alloc())?;
-    let nowhere = Call::SetTimestampOffset(1, Moment::Nan);
-    assert_eq!(rt; refusals(&mut scene, &nowhere)?, same(Name::NoSuchBuffer));
-    let never = Call::SetTimestampOffset(0, Moment::Nan);
-    assert_eq!(rt; refusals(&mut scene, &never)?, same(Name::TypeError));
-    let piece = Piece {
-        blob: 1,
-        part: None,
-    };
-    let missing = Call::AppendBuffer(0, piece);
-    assert_eq!(rt; refusals(&mut scene, &missing)?, same(Name::NoSuchBytes));
+fn check(rt: &impl Abort, alloc: Global, rows: &[Row]) -> Result<(), Fail> {
+    let script = script_of(alloc, rows)?;
+    let mut scene = scene_of(alloc, &script)?;
+    let mut steps = script.steps.as_slice().iter();
+    for (line, wanted) in rows {
+        let wanted = match *wanted {
+            Not => (None, None),
+            Told(name) => (Some(name), Some(name)),
+            Late(name) => (None, Some(name)),
+        };
+        match steps.next() {
+            Some(StepLine::Call(call)) => {
+                assert_eq!(rt; refusals(&mut scene, call)?, wanted, "at {line}");
+            }
+            Some(_) => drain(&mut scene)?,
+            None => return Err("no step")?,
+        }
+    }
     Ok(())
 }
 
 #[test]
-fn of_a_buffer_at_work(rt: HostRuntime) -> Result<(), Fail> {
-    let mut scene = open_scene(rt.alloc())?;
-    let append = Call::AppendBuffer(0, WHOLE);
-    assert_eq!(rt; refusals(&mut scene, &append)?, (None, None));
-    assert_eq!(rt; refusals(&mut scene, &append)?, same(Name::InvalidState));
-    let mode = Call::SetMode(0, Mode::Segments);
-    assert_eq!(rt; refusals(&mut scene, &mode)?, same(Name::InvalidState));
-    drain(&mut scene)?;
-    assert_eq!(rt; refusals(&mut scene, &mode)?, same(Name::TypeError));
-    Ok(())
-}
-
-/// That a buffer is full is not told before the call.
-#[test]
-fn of_a_full_buffer(rt: HostRuntime) -> Result<(), Fail> {
-    let mut scene = open_scene(rt.alloc())?;
-    let append = Call::AppendBuffer(0, WHOLE);
-    assert_eq!(rt; refusals(&mut scene, &append)?, (None, None));
-    drain(&mut scene)?;
-    let full = (None, Some(Name::QuotaExceeded));
-    assert_eq!(rt; refusals(&mut scene, &append)?, full);
-    Ok(())
-}
-
-#[test]
-fn of_a_removed_buffer(rt: HostRuntime) -> Result<(), Fail> {
-    let mut scene = open_scene(rt.alloc())?;
-    let removal = Call::RemoveSourceBuffer(0);
-    assert_eq!(rt; refusals(&mut scene, &removal)?, (None, None));
-    let read = Call::Buffered(0);
-    assert_eq!(rt; refusals(&mut scene, &read)?, same(Name::InvalidState));
-    assert_eq!(rt; refusals(&mut scene, &removal)?, same(Name::NotFound));
-    Ok(())
-}
-
-#[test]
-fn of_the_element(rt: HostRuntime) -> Result<(), Fail> {
-    let mut scene = open_scene(rt.alloc())?;
-    assert_eq!(rt;
-        refusals(&mut scene, &Call::Seek(Moment::Infinite))?,
-        same(Name::TypeError)
-    );
-    assert_eq!(rt;
-        refusals(&mut scene, &Call::Advance(Moment::Nan))?,
-        same(Name::TypeError)
-    );
-    assert_eq!(rt; refusals(&mut scene, &Call::Play)?, (None, None));
-    assert_eq!(rt; refusals(&mut scene, &Call::Seekable)?, (None, None));
+fn are_told_before_a_call(rt: HostRuntime) -> Result<(), Fail> {
+    for rows in [
+        OF_THE_SOURCE.as_slice(),
+        &OF_TIMES_AND_BYTES,
+        &OF_AN_APPEND,
+        &OF_A_REMOVAL,
+        &OF_FRAMES_THAT_ARE_THERE,
+        &OF_A_SEGMENT_THAT_HAS_BEGUN,
+        &OF_A_FULL_BUFFER,
+        &OF_A_REMOVED_BUFFER,
+        &OF_SEVENTEEN_BUFFERS,
+        &BEHIND_A_FAULT,
+        &OF_THE_ELEMENT,
+    ] {
+        check(&rt, rt.alloc(), rows)?;
+    }
     Ok(())
 }

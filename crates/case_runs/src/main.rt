@@ -1,0 +1,70 @@
+//! Runs the cases of its folder: each line of `cases.txt` names the words of a run, its status, and the file with what it
+//! prints. A run gets the folder's files by a library in memory, and prints into a sink in memory; it is made over both
+//! stores of coded frames. For each case that differs a line is printed, with the first line that does, and in the end how
+//! many are as wanted.
+//!
+//! It stands on `mse_commands`, whose `run` is the program. `examples/README.md` says what a case is.
+#![tactic(auto)]
+
+mod compare;
+mod failing;
+mod files;
+mod library;
+mod list;
+mod printed;
+mod scripts;
+mod tables;
+mod ways;
+
+use files::{CaseFile, bytes_of, read_files, text_of};
+use list::read_case;
+use std::process::ExitCode;
+use ways::try_case;
+
+/// The file with a line for each case.
+const LIST: &str = "cases.txt";
+
+/// How many cases were tried, and how many of them differ.
+#[derive(Clone, Copy, Debug, PartialEq, Eq)]
+struct Count {
+    tried: u64,
+    differing: u64,
+}
+
+/// Tries the case of a line, and prints where it differs.
+fn try_line(
+    rt: &HostRuntime,
+    files: &[CaseFile],
+    line: &str,
+    count: &mut Count,
+) -> anyhow::Result<()> {
+    let case = read_case(rt.alloc(), line)?;
+    count.tried = count.tried.saturating_add(1);
+    if let Some(difference) = try_case(rt.alloc(), files, &case)? {
+        count.differing = count.differing.saturating_add(1);
+        println!(rt; "{line}: {difference}")?;
+    }
+    Ok(())
+}
+
+fn main(rt: HostRuntime) -> anyhow::Result<ExitCode> {
+    let files = read_files(&rt)?;
+    let list = text_of(bytes_of(&files, LIST)?)?;
+    let mut count = Count {
+        tried: 0,
+        differing: 0,
+    };
+    for line in list.lines() {
+        if !line.is_empty() && !line.starts_with('#') {
+            try_line(&rt, &files, line, &mut count)?;
+        }
+    }
+    let Count { tried, differing } = count;
+    if differing == 0 {
+        println!(rt; "{tried} cases as wanted")?;
+        Ok(ExitCode::SUCCESS)
+    } else {
+        println!(rt; "{differing} of {tried} cases differ")?;
+        Ok(ExitCode::FAILURE)
+    }
+}

@@ -1,0 +1,210 @@
+//! What is tried with a case.
+
+use crate::compare::{difference, difference_of_run};
+use crate::failing::{try_loads, try_puts};
+use crate::files::{CaseFile, bytes_of, text_of};
+use crate::list::{Case, Way};
+use crate::printed::{Printed, Setting, Store, run_words};
+use crate::scripts::{append_len, cut_script, repeated_script};
+use crate::tables::{Row, block_of, read_table};
+use anyhow::{Result, anyhow};
+use std::alloc::{AllocError, Global};
+
+/// The status of a run whose block tells a fault.
+const MEDIA: u8 = 9;
+
+/// Whether a case plays a script.
+fn plays_script(case: &Case<'_>) -> bool {
+    matches!(case.words.first(), Some(word) if word.as_str() == "play")
+}
+
+/// The words print the text, over this store, with the listeners of the program or with none.
+fn try_store(
+    alloc: Global,
+    files: &[CaseFile],
+    case: &Case<'_>,
+    changed: Option<(&str, &[u8])>,
+    runner: (Store, bool),
+) -> Result<Option<String>> {
+    let (store, is_heard) = runner;
+    let setting = Setting {
+        store,
+        is_heard,
+        changed,
+        ..Setting::plain(files)
+    };
+    let printed = run_words(alloc, &case.words, &setting)?;
+    let text = bytes_of(files, case.text)?;
+    Ok(difference_of_run(alloc, case.status, text, &printed)?)
+}
+
+/// The words print the text, over both stores; and without listeners, where no script has rules for them.
+fn try_text(
+    alloc: Global,
+    files: &[CaseFile],
+    case: &Case<'_>,
+    changed: Option<(&str, &[u8])>,
+) -> Result<Option<String>> {
+    for runner in [
+        (Store::Index, true),
+        (Store::List, true),
+        (Store::Index, false),
+    ] {
+        if runner.1 || !plays_script(case) {
+            if let Some(found) = try_store(alloc, files, case, changed, runner)? {
+                return Ok(Some(found));
+            }
+        }
+    }
+    Ok(None)
+}
+
+/// The name and the text of the script that a case plays.
+fn script_of<'a>(files: &'a [CaseFile], case: &'a Case<'a>) -> Result<(&'a str, &'a str)> {
+    match case.words.get(1) {
+        Some(name) => Ok((name.as_str(), text_of(bytes_of(files, name.as_str())?)?)),
+        None => Err(anyhow!("the case plays no script")),
+    }
+}
+
+/// What closes a text: the code of the element's error, and the block.
+fn closing(text: &str) -> &str {
+    match text.rsplit_once(" error ") {
+        Some((_, closing)) => closing,
+        None => text,
+    }
+}
+
+/// Where the closing of a run differs from that of a text.
+fn difference_of_closing(
+    alloc: Global,
+    status: u8,
+    text: &str,
+    printed: &Printed,
+) -> Result<Option<String>> {
+    let found = closing(text_of(printed.sink.written())?);
+    if printed.status != status {
+        return Ok(difference_of_run(alloc, status, text.as_bytes(), printed)?);
+    }
+    Ok(difference(alloc, closing(text).as_bytes(), found.as_bytes())?)
+}
+
+/// The first append of a part is cut at each byte.
+fn try_cuts<'x>(
+    alloc: Global,
+    files: &'x [CaseFile],
+    case: &'x Case<'x>,
+) -> Result<Option<String>> {
+    let (name, script) = script_of(files, case)?;
+    let text = text_of(bytes_of(files, case.text)?)?;
+    let Some(len) = append_len(script) else {
+        return Err(anyhow!("{name} appends no part of a blob"));
+    };
+    for at in 0..=len {
+        let script = cut_script(alloc, script, at)?;
+        let setting = Setting {
+            changed: Some((name, script.as_bytes())),
+            ..Setting::plain(files)
+        };
+        let printed = run_words(alloc, &case.words, &setting)?;
+        if let Some(found) = difference_of_closing(alloc, case.status, text, &printed)? {
+            return Ok(Some(format!(in alloc; "cut at {at}: {found}")?));
+        }
+    }
+    Ok(None)
+}
+
+/// A row's block is printed of the front part of this length: of a script as the last lines, of a file as all.
+fn difference_of_front(
+    alloc: Global,
+    is_script: bool,
+    block: &str,
+    printed: &Printed,
+) -> Result<Option<String>, AllocError> {
+    let written = printed.sink.written();
+    if is_script {
+        if printed.status == 0 && written.ends_with(block.as_bytes()) {
+            return Ok(None);
+        }
+        return difference_of_run(alloc, 0, block.as_bytes(), printed);
+    }
+    let status = if block.contains("\nfault ") { MEDIA } else { 0 };
+    difference_of_run(alloc, status, block.as_bytes(), printed)
+}
+
+/// The front parts of the lengths of a row print its block.
+fn try_row(
+    alloc: Global,
+    files: &[CaseFile],
+    case: &Case<'_>,
+    file: (&str, &[u8]),
+    row: &Row,
+) -> Result<Option<String>> {
+    let (name, bytes) = file;
+    let is_script = plays_script(case);
+    for len in row.shortest..=row.longest {
+        let Some(front) = bytes.get(..len) else {
+            return Err(anyhow!("{name} has fewer than {len} bytes"));
+        };
+        let block = block_of(alloc, row, len)?;
+        let setting = Setting {
+            changed: Some((name, front)),
+            ..Setting::plain(files)
+        };
+        let printed = run_words(alloc, &case.words, &setting)?;
+        if let Some(found) = difference_of_front(alloc, is_script, block.as_str(), &printed)? {
+            return Ok(Some(format!(in alloc; "at {len} bytes: {found}")?));
+        }
+    }
+    Ok(None)
+}
+
+/// The file of this name is cut at each byte. The rows of the table follow each other, from 0 to its length.
+fn try_fronts(
+    alloc: Global,
+    files: &[CaseFile],
+    case: &Case<'_>,
+    name: &str,
+) -> Result<Option<String>> {
+    let bytes = bytes_of(files, name)?;
+    let rows = read_table(alloc, text_of(bytes_of(files, case.text)?)?)?;
+    let mut next = 0usize;
+    for row in &rows {
+        if row.shortest != next {
+            return Err(anyhow!("a row begins with {next} bytes"));
+        }
+        next = row.longest.saturating_add(1);
+        if let Some(found) = try_row(alloc, files, case, (name, bytes), row)? {
+            return Ok(Some(found));
+        }
+    }
+    if next != bytes.len().saturating_add(1) {
+        return Err(anyhow!("the last row ends with the file"));
+    }
+    Ok(None)
+}
+
+/// A line of the script stands so many times.
+fn try_repeated(
+    alloc: Global,
+    files: &[CaseFile],
+    case: &Case<'_>,
+    count: u64,
+) -> Result<Option<String>> {
+    let (name, script) = script_of(files, case)?;
+    let script = repeated_script(alloc, script, count)?;
+    try_text(alloc, files, case, Some((name, script.as_bytes())))
+}
+
+/// Where a case differs from what is wanted; `None` where it does not.
+pub fn try_case(alloc: Global, files: &[CaseFile], case: &Case<'_>) -> Result<Option<String>> {
+    match case.way {
+        Way::Run => try_text(alloc, files, case, None),
+        Way::Indexed => try_store(alloc, files, case, None, (Store::Index, true)),
+        Way::Puts(ends) => try_puts(alloc, files, case, ends),
+        Way::Loads => try_loads(alloc, files, case),
+        Way::Cut => try_cuts(alloc, files, case),
+        Way::Fronts(name) => try_fronts(alloc, files, case, name),
+        Way::Repeat(count) => try_repeated(alloc, files, case, count),
+    }
+}
