@@ -3,4 +3,5 @@
 mod element;
 mod levels;
 mod queue;
+mod scenes;
 mod seeks;

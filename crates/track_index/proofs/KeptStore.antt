@@ -5,13 +5,13 @@ use Rattle.std.proofs.lemmas.List.{map_push, length-append}
 use Rattle.std.proofs.lemmas.List.Sums.{sum_by-append, sum_by-cons, fold-append}
 use Rattle.mse_base.specs.Time.{IsTick}
 use Rattle.mse_base.specs.Bridging.{ranges_with, bridged_ranges, is_near, is_near_any}
-use Rattle.mse_base.proofs.Merging.{ranges_bridged, times_bridged}
+use Rattle.mse_base.proofs.JoinedSpans.{ranges_bridged, times_bridged}
 use Rattle.mse_base.proofs.Extended.{same_near}
 use Rattle.track_store.specs.declared.store.Stored.{Stored}
 use Rattle.track_store.specs.Frames.{HasFrameInvariants, IsTimed, IsAscending, bytes_of, interval, intervals, ranges_of, frames_left}
 use Rattle.track_store.specs.Sound.{HasPredecessor, IsChained, IsSuccessor, last_serial}
 use Rattle.track_store.proofs.Soundness.{chained_push, chained-cleared}
-use Rattle.track_store.proofs.Clearing.{kept_push, kept-cleared, each-cleared, each-push}
+use Rattle.track_store.proofs.ClearedLists.{kept_push, kept-cleared, each-cleared, each-push}
 use Rattle.track_index.specs.declared.entry.OrderEntry.{OrderEntry}
 use Rattle.track_index.specs.Order.{entries_with, entries_with_all, entry_of, span_of, presentation_order}
 use Rattle.track_index.specs.Repair.{AreTimed}

@@ -8,9 +8,9 @@ use Rattle.std.proofs.lemmas.List.Sums.{fold-append}
 use Rattle.mse_base.specs.Time.{IsTick}
 use Rattle.mse_base.specs.declared.span.Span.{Span}
 use Rattle.mse_base.specs.Bridging.{IsRanges, ranges_with, ranges_with_all, bridged_ranges, is_near, is_near_any, ranges_without}
-use Rattle.mse_base.proofs.Merging.{ranges_bridged, times_bridged, length_bridged}
+use Rattle.mse_base.proofs.JoinedSpans.{ranges_bridged, times_bridged, length_bridged}
 use Rattle.mse_base.proofs.Extended.{same_near, near_parts, near_is}
-use Rattle.mse_base.proofs.Carving.{left_holds, right_holds, carved_less, hole_empty}
+use Rattle.mse_base.proofs.CarvedRanges.{left_holds, right_holds, carved_less, hole_empty}
 use Rattle.track_store.specs.declared.store.Stored.{Stored}
 use Rattle.track_store.specs.Frames.{interval, intervals}
 use Rattle.track_index.specs.declared.entry.OrderEntry.{OrderEntry}

@@ -5,7 +5,7 @@ use Rattle.std.specs.List.{AllByRecursion}
 use Rattle.std.proofs.lemmas.Bool.Decides.{nat_tests}
 use Rattle.track_store.specs.declared.store.Stored.{Stored}
 use Rattle.track_store.specs.Frames.{is_in_frame, overlapped, has_serial, IsAscending}
-use Rattle.track_store.proofs.Overlapping.{fold-each}
+use Rattle.track_store.proofs.LastOverlap.{fold-each}
 use Rattle.track_index.specs.declared.entry.OrderEntry.{OrderEntry}
 use Rattle.track_index.specs.Order.{entry_of, is_in_entry, presentation_order, last_that}
 use Rattle.track_index.proofs.EntryOrder.{found_ordered}

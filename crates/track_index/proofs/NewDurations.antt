@@ -8,11 +8,11 @@ use Rattle.mse_base.specs.Time.{IsTick}
 use Rattle.mse_base.specs.declared.span.Span.{Span}
 use Rattle.mse_base.specs.Bridging.{is_near, is_near_any, bridged_ranges}
 use Rattle.mse_base.proofs.Extended.{near_parts, near_is}
-use Rattle.mse_base.proofs.Merging.{times_bridged}
+use Rattle.mse_base.proofs.JoinedSpans.{times_bridged}
 use Rattle.track_store.specs.declared.store.Stored.{Stored}
 use Rattle.track_store.specs.Frames.{IsAscending, IsTimed, has_serial, frames_with_dur, with_dur, ranges_of, intervals}
 use Rattle.track_store.proofs.Soundness.{chained-shortened}
-use Rattle.track_store.proofs.Clearing.{kept-shortened, used-shortened, shortened_at}
+use Rattle.track_store.proofs.ClearedLists.{kept-shortened, used-shortened, shortened_at}
 use Rattle.std.proofs.lemmas.Option.{slice_get_read}
 use Rattle.track_index.specs.declared.entry.OrderEntry.{OrderEntry}
 use Rattle.track_index.specs.Order.{entries_with, entries_with_all, entry_of, span_of, presentation_order, with_entry_dur}

@@ -7,7 +7,7 @@ use Rattle.mse_base.specs.declared.ticks.Moment.{Moment}
 use Rattle.mse_base.specs.Moments.{is_before}
 use Rattle.track_store.specs.declared.store.Stored.{Stored}
 use Rattle.track_store.specs.Frames.{IsAscending, has_serial, is_within, frames_left}
-use Rattle.track_store.proofs.Clearing.{each-cleared, cleared-cleared, cleared-same}
+use Rattle.track_store.proofs.ClearedLists.{each-cleared, cleared-cleared, cleared-same}
 use Rattle.track_store.proofs.Soundness.{cleared-unnamed}
 use Rattle.track_index.specs.declared.entry.OrderEntry.{OrderEntry}
 use Rattle.track_index.specs.declared.key.Key.{Key}

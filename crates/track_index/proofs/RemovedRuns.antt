@@ -6,15 +6,15 @@ use Rattle.std.proofs.lemmas.List.{drop_more, drop_all, take-append-drop, drop-d
 use Rattle.std.proofs.lemmas.List.Sums.{sum_by-append, sum_by-cons}
 use Rattle.mse_base.specs.declared.span.Span.{Span}
 use Rattle.mse_base.specs.Bridging.{is_near_any}
-use Rattle.mse_base.proofs.Carving.{nears-append}
-use Rattle.mse_base.proofs.Merging.{times_bridged}
+use Rattle.mse_base.proofs.CarvedRanges.{nears-append}
+use Rattle.mse_base.proofs.JoinedSpans.{times_bridged}
 use Rattle.mse_base.specs.Rows.{row}
 use Rattle.block_list.specs.Rows.{IsCut}
 use Rattle.block_list.specs.BlockPlaces.{IsPlace}
 use Rattle.block_list.specs.declared.block_list.BlockPlace.{BlockPlace}
 use Rattle.track_store.specs.declared.store.Stored.{Stored}
 use Rattle.track_store.specs.Frames.{IsAscending, has_serial, bytes_of, from_sync, frames_left, interval, intervals, ranges_of}
-use Rattle.track_store.proofs.Clearing.{cleared-goes}
+use Rattle.track_store.proofs.ClearedLists.{cleared-goes}
 use Rattle.track_store.proofs.Soundness.{cleared-unnamed, cleared-from_sync, cleared-append}
 use Rattle.track_index.specs.declared.entry.OrderEntry.{OrderEntry}
 use Rattle.track_index.specs.declared.frames.SerialBelow.{SerialBelow}

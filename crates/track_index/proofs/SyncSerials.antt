@@ -8,7 +8,7 @@ use Rattle.std.proofs.lemmas.List.Folds.{list_any-append, list_any_at}
 use Rattle.std.proofs.lemmas.Map.Views.{any-filter_same}
 use Rattle.track_store.specs.declared.store.Stored.{Stored}
 use Rattle.track_store.specs.Frames.{has_serial, with_dur, frames_with_dur}
-use Rattle.track_store.proofs.Clearing.{each-push}
+use Rattle.track_store.proofs.ClearedLists.{each-push}
 use Rattle.track_index.specs.Syncs.{AreAscending, is_among, IsLastUpTo, IsToldBy, AreSyncsOf}
 
 eq_of : (n m : ℕ) → nat_eq n m ≡ true → n ≡ m

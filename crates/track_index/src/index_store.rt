@@ -32,8 +32,9 @@ const HALF: usize = 64;
 /// and the ranges. Only `reserve` and `copy_ranges` take memory.
 ///
 /// A call costs a search, work within one or two blocks, and at worst one look at what is known of
-/// each block; a removal costs that for each group of frames that goes, or for each frame of a group
-/// that other frames interrupt in order of presentation; `add`, `cut` and removals move the ranges
+/// each block; a removal costs that for each run of frames that goes (one frame up to the next
+/// random access point), and a look at each of them, or all of it for each frame where others stand
+/// between those of the run in order of presentation; `add`, `cut` and removals move the ranges
 /// behind theirs, which are repaired near the hole alone. The group of a frame is found by searches
 /// alone. A removal leaves the serials of random access points as they are; those of
 /// frames that are gone are dropped by `add` of a lower one, and by `reserve` where all are twice as

@@ -1,49 +1,47 @@
+//! The element with the events that wait: each case is a row of steps.
+
+use super::scenes::{SECOND, Told, scene_of, time};
 use element_seek::Scene;
 use media_element::Element;
-use mse_base::{Moment, Span, Ticks};
 use mse_calls::{Changes, EndKind, Event, EventKind, Level, Name, Target};
+use std::alloc::Global;
 use std::process::Abort;
 use std::test::Fail;
 
-/// Ticks in a second.
-const SECOND: i128 = 141_120_000_000;
-
-fn time(t: i128) -> Result<Ticks, Fail> {
-    Ok(Ticks::new(t).ok_or("no time")?)
-}
-
-fn at(t: i128) -> Result<Moment, Fail> {
-    Ok(Moment::At(time(t)?))
-}
-
-/// The range from a time to a time.
-fn range(start: i128, end: i128) -> Result<Option<Span>, Fail> {
-    Ok(Some(Span {
-        start: time(start)?,
-        end: time(end)?,
-    }))
-}
-
-/// An open source of a duration, with a range round the position.
-fn open(duration: Moment, span: Option<Span>) -> Scene {
-    let seekable = match duration {
-        Moment::At(end) => Some(Span {
-            start: Ticks::zero(),
-            end,
-        }),
-        Moment::Nan | Moment::Infinite => None,
-    };
-    Scene {
-        duration,
-        ended: false,
-        span,
-        seekable,
-    }
+/// A call on an element with its answer, its turn, the end of a step, the events that wait, or what
+/// holds then. Times are in ticks.
+#[derive(Clone, Copy)]
+enum Step {
+    /// What the element is told of its source from here on.
+    Scene(Told),
+    /// An element whose metadata is there, at the level of the scene, all of whose events were
+    /// fired.
+    Loaded,
+    Load,
+    Seek(i128),
+    Play(Option<Name>),
+    Pause,
+    Advance(i128, Option<Name>),
+    /// The duration changes to that of the scene.
+    ChangeDuration,
+    Fail(EndKind),
+    /// Whether something was due.
+    Turn(bool),
+    Settle,
+    /// The events that wait; they are fired.
+    Fires(&'static [EventKind]),
+    /// Whether something is due.
+    Due(bool),
+    Position(i128),
+    Level(Level),
+    Seeking(bool),
+    Paused(bool),
+    Error(u8),
 }
 
 /// An element whose metadata is there, at the level of a scene, all of whose events were fired.
-fn loaded_element(rt: &HostRuntime, scene: &Scene) -> Result<Element, Fail> {
-    let mut element = Element::new(rt.alloc());
+fn loaded_element(alloc: Global, scene: &Scene) -> Result<Element, Fail> {
+    let mut element = Element::new(alloc);
     element.reserve(6)?;
     element.load(scene);
     element.settle(scene);
@@ -54,7 +52,7 @@ fn loaded_element(rt: &HostRuntime, scene: &Scene) -> Result<Element, Fail> {
 }
 
 /// Whether the events that wait are these at the element; they are fired.
-fn fire_all(element: &mut Element, wanted: &[EventKind]) -> bool {
+fn fires(element: &mut Element, wanted: &[EventKind]) -> bool {
     let mut same = true;
     for kind in wanted {
         let event = Event {
@@ -66,59 +64,252 @@ fn fire_all(element: &mut Element, wanted: &[EventKind]) -> bool {
     same && element.fire().is_none()
 }
 
-/// A call on an element with its answer, its turn, the end of a step, or the events that wait. Times are in ticks.
-#[derive(Clone, Copy)]
-enum ElementCall {
-    Seek(i128),
-    Play(Option<Name>),
-    Advance(i128, Option<Name>),
-    /// Whether something is due.
-    Due(bool),
-    /// Whether something was due.
-    Turn(bool),
-    Settle,
-    /// The events that wait; they are fired.
-    Fires(&'static [EventKind]),
+/// Whether this holds of the element.
+fn holds(element: &Element, scene: &Scene, step: &Step) -> Result<bool, Fail> {
+    match *step {
+        Step::Due(wanted) => Ok(element.due(scene) == wanted),
+        Step::Position(t) => Ok(element.position() == time(t)?),
+        Step::Level(wanted) => Ok(element.level() == wanted),
+        Step::Seeking(wanted) => Ok(element.seeking() == wanted),
+        Step::Paused(wanted) => Ok(element.paused() == wanted),
+        Step::Error(wanted) => Ok(element.error() == wanted),
+        _ => Ok(true),
+    }
 }
 
-/// Does it, and compares the answer.
-fn expect(
-    rt: &impl Abort,
-    element: &mut Element,
-    scene: &Scene,
-    act: ElementCall,
-) -> Result<(), Fail> {
+/// Takes a step; whether it answers what is wanted.
+fn does(alloc: Global, element: &mut Element, scene: &Scene, step: &Step) -> Result<bool, Fail> {
     element.reserve(4)?;
-    match act {
-        ElementCall::Seek(t) => element.seek(time(t)?, scene),
-        ElementCall::Play(wanted) => assert_eq!(rt; element.play(scene), wanted),
-        ElementCall::Advance(t, wanted) => assert_eq!(rt; element.advance(time(t)?, scene), wanted),
-        ElementCall::Due(wanted) => assert_eq!(rt; element.due(scene), wanted),
-        ElementCall::Turn(wanted) => assert_eq!(rt; element.turn(scene), wanted),
-        ElementCall::Settle => element.settle(scene),
-        ElementCall::Fires(wanted) => assert!(rt; fire_all(element, wanted)),
+    match *step {
+        Step::Loaded => *element = loaded_element(alloc, scene)?,
+        Step::Load => element.load(scene),
+        Step::Seek(t) => element.seek(time(t)?, scene),
+        Step::Play(wanted) => return Ok(element.play(scene) == wanted),
+        Step::Pause => element.pause(),
+        Step::Advance(t, wanted) => return Ok(element.advance(time(t)?, scene) == wanted),
+        Step::ChangeDuration => element.change_duration(scene.duration, scene),
+        Step::Fail(kind) => element.fail(kind),
+        Step::Turn(wanted) => return Ok(element.turn(scene) == wanted),
+        Step::Settle => element.settle(scene),
+        Step::Fires(wanted) => return Ok(fires(element, wanted)),
+        _ => return holds(element, scene, step),
+    }
+    Ok(true)
+}
+
+/// A second of which nothing is buffered.
+const SHORT: Told = (Some(SECOND), false, None, Some((0, SECOND)));
+
+/// Takes the steps of a case, from a new element on.
+fn run(rt: &(impl Abort + AllocGlobal), case: &str, steps: &[Step]) -> Result<(), Fail> {
+    let mut scene = scene_of(&SHORT)?;
+    let mut element = Element::new(rt.alloc());
+    for (i, step) in steps.iter().enumerate() {
+        if let Step::Scene(told) = step {
+            scene = scene_of(told)?;
+        }
+        assert!(rt;
+            does(rt.alloc(), &mut element, &scene, step)?,
+            "{case}, step {i}"
+        );
     }
     Ok(())
 }
 
-/// Does one after the other.
-fn run(
-    rt: &impl Abort,
-    element: &mut Element,
-    scene: &Scene,
-    acts: &[ElementCall],
-) -> Result<(), Fail> {
-    for act in acts {
-        expect(rt, element, scene, *act)?;
+/// Of ten seconds the first six are buffered, the first two, none, and the two from four on.
+const SIX: Told = (
+    Some(10 * SECOND),
+    false,
+    Some((0, 6 * SECOND)),
+    Some((0, 10 * SECOND)),
+);
+
+const TWO: Told = (
+    Some(10 * SECOND),
+    false,
+    Some((0, 2 * SECOND)),
+    Some((0, 10 * SECOND)),
+);
+
+const NONE: Told = (Some(10 * SECOND), false, None, Some((0, 10 * SECOND)));
+
+const TWO_LATER: Told = (
+    Some(10 * SECOND),
+    false,
+    Some((4 * SECOND, 6 * SECOND)),
+    Some((0, 10 * SECOND)),
+);
+
+const CASES: [(&str, &[Step]); 6] = [
+    // An element without metadata is told of a change of the duration, and does not seek.
+    (
+        "duration_of_an_element_without_metadata",
+        &[
+            Step::Scene(SHORT),
+            Step::Seek(5 * SECOND),
+            Step::ChangeDuration,
+            Step::Fires(&[EventKind::DurationChange]),
+            Step::Level(Level::Nothing),
+            Step::Position(0),
+            Step::Seeking(false),
+        ],
+    ),
+    // An element whose position is after the new duration seeks to it; one whose position is the
+    // new duration, or before it, does not.
+    (
+        "seeks_to_a_lesser_duration",
+        &[
+            Step::Scene(SIX),
+            Step::Loaded,
+            Step::Seek(5 * SECOND),
+            Step::Fires(&[EventKind::Seeking]),
+            Step::Scene((
+                Some(5 * SECOND),
+                false,
+                Some((0, 5 * SECOND)),
+                Some((0, 5 * SECOND)),
+            )),
+            Step::ChangeDuration,
+            Step::Fires(&[EventKind::DurationChange]),
+            Step::Position(5 * SECOND),
+            Step::Scene((
+                Some(2 * SECOND),
+                false,
+                Some((0, 2 * SECOND)),
+                Some((0, 2 * SECOND)),
+            )),
+            Step::ChangeDuration,
+            Step::Fires(&[EventKind::DurationChange, EventKind::Seeking]),
+            Step::Position(2 * SECOND),
+            Step::Seeking(true),
+            Step::Scene((None, false, Some((0, 2 * SECOND)), Some((0, 2 * SECOND)))),
+            Step::ChangeDuration,
+            Step::Fires(&[EventKind::DurationChange]),
+            Step::Position(2 * SECOND),
+        ],
+    ),
+    // An element that was told where to start seeks there once its metadata is there, and stays
+    // there.
+    (
+        "loads_at_its_start",
+        &[
+            Step::Scene(SIX),
+            Step::Seek(5 * SECOND),
+            Step::Fires(&[]),
+            Step::Load,
+            Step::Settle,
+            Step::Fires(&[
+                EventKind::LoadedMetadata,
+                EventKind::Seeking,
+                EventKind::LoadedData,
+                EventKind::CanPlay,
+            ]),
+            Step::Position(5 * SECOND),
+            Step::Level(Level::Future),
+            Step::Due(true),
+            Step::Turn(true),
+            Step::Fires(&[EventKind::TimeUpdate, EventKind::Seeked]),
+            Step::Seeking(false),
+            Step::Due(false),
+            Step::Turn(false),
+            Step::Fires(&[]),
+        ],
+    ),
+    // A seek while the element plays where its data is, to a place whose data comes only later.
+    (
+        "seeks_while_it_plays",
+        &[
+            Step::Scene(TWO),
+            Step::Loaded,
+            Step::Play(None),
+            Step::Fires(&[EventKind::Play, EventKind::Playing]),
+            Step::Seek(5 * SECOND),
+            Step::Scene(NONE),
+            Step::Settle,
+            Step::Fires(&[
+                EventKind::Seeking,
+                EventKind::TimeUpdate,
+                EventKind::Waiting,
+            ]),
+            Step::Due(false),
+            Step::Scene(TWO_LATER),
+            Step::Settle,
+            Step::Fires(&[EventKind::CanPlay, EventKind::Playing]),
+            Step::Turn(true),
+            Step::Fires(&[EventKind::TimeUpdate, EventKind::Seeked]),
+            Step::Level(Level::Future),
+            Step::Position(5 * SECOND),
+        ],
+    ),
+    // The element plays to the end of an ended source.
+    (
+        "plays_to_the_end",
+        &[
+            Step::Scene((
+                Some(14_112_000_000),
+                true,
+                Some((0, 14_112_000_000)),
+                Some((0, 14_112_000_000)),
+            )),
+            Step::Loaded,
+            Step::Play(None),
+            Step::Fires(&[EventKind::Play, EventKind::Playing]),
+            Step::Advance(-1, Some(Name::TypeError)),
+            Step::Advance(SECOND, None),
+            Step::Settle,
+            Step::Turn(true),
+            Step::Fires(&[
+                EventKind::TimeUpdate,
+                EventKind::TimeUpdate,
+                EventKind::Pause,
+                EventKind::Ended,
+            ]),
+            Step::Level(Level::Current),
+            Step::Position(14_112_000_000),
+            Step::Paused(true),
+        ],
+    ),
+    // An error before there is metadata is one of code 4, after which the element does not play.
+    (
+        "fails_without_metadata",
+        &[
+            Step::Scene(SHORT),
+            Step::Pause,
+            Step::Fail(EndKind::Plain),
+            Step::Fires(&[]),
+            Step::Fail(EndKind::Network),
+            Step::Fail(EndKind::Decode),
+            Step::Fires(&[EventKind::Error]),
+            Step::Error(4),
+            Step::Play(Some(Name::NotSupported)),
+            Step::Fires(&[]),
+            Step::Paused(true),
+        ],
+    ),
+];
+
+#[test]
+fn elements(rt: HostRuntime) -> Result<(), Fail> {
+    for (case, steps) in &CASES {
+        run(&rt, case, steps)?;
     }
     Ok(())
+}
+
+/// Whether these events are fired next, in this order.
+fn fires_each(element: &mut Element, wanted: &[Event]) -> bool {
+    let mut same = true;
+    for event in wanted {
+        same = same && element.fire() == Some(*event);
+    }
+    same
 }
 
 /// Events are fired in the order in which they were queued, at whatever target.
 #[test]
 fn fires_in_order(rt: HostRuntime) -> Result<(), Fail> {
     let mut element = Element::new(rt.alloc());
-    assert!(rt; element.fire().is_none());
+    assert!(rt; element.fire().is_none(), "before all");
     element.reserve(8)?;
     let opened = Event {
         target: Target::Source,
@@ -135,207 +326,22 @@ fn fires_in_order(rt: HostRuntime) -> Result<(), Fail> {
     kinds.push(EventKind::Update);
     kinds.push(EventKind::UpdateEnd);
     element.tell_kinds(Target::Buffer(3), &kinds);
-    for wanted in [opened, changed, changed] {
-        assert_eq!(rt; element.fire(), Some(wanted));
-    }
-    for kind in [EventKind::Update, EventKind::UpdateEnd] {
-        let target = Target::Buffer(3);
-        assert_eq!(rt; element.fire(), Some(Event { target, kind }));
-    }
-    assert!(rt; element.fire().is_none());
-    Ok(())
-}
-
-/// An element without metadata is told of a change of the duration, and does not seek.
-#[test]
-fn duration_of_an_element_without_metadata(rt: HostRuntime) -> Result<(), Fail> {
-    let scene = open(at(SECOND)?, None);
-    let mut element = Element::new(rt.alloc());
-    element.reserve(3)?;
-    element.seek(time(5 * SECOND)?, &scene);
-    element.change_duration(scene.duration, &scene);
-    assert!(rt; fire_all(&mut element, &[EventKind::DurationChange]));
-    assert_eq!(rt;
-        (element.level(), element.position()),
-        (Level::Nothing, Ticks::zero())
+    assert!(rt;
+        fires_each(&mut element, &[opened, changed, changed]),
+        "the first three"
     );
-    assert!(rt; !element.seeking());
+    assert!(rt; fires_each(&mut element, &UPDATES), "the last two");
+    assert!(rt; element.fire().is_none(), "behind all");
     Ok(())
 }
 
-/// The duration changes to that of a scene; compares the events, and where the element then is.
-fn expect_fall(
-    rt: &impl Abort,
-    element: &mut Element,
-    scene: &Scene,
-    wanted: &[EventKind],
-    reached: i128,
-) -> Result<(), Fail> {
-    element.reserve(2)?;
-    element.change_duration(scene.duration, scene);
-    assert!(rt; fire_all(element, wanted));
-    assert_eq!(rt; element.position(), time(reached)?);
-    Ok(())
-}
-
-/// Durations behind one of ten seconds at an element at five, the events of each, and where the element then is.
-const FALLS: [(i128, &[EventKind], i128); 2] = [
-    (5 * SECOND, &[EventKind::DurationChange], 5 * SECOND),
-    (
-        2 * SECOND,
-        &[EventKind::DurationChange, EventKind::Seeking],
-        2 * SECOND,
-    ),
+const UPDATES: [Event; 2] = [
+    Event {
+        target: Target::Buffer(3),
+        kind: EventKind::Update,
+    },
+    Event {
+        target: Target::Buffer(3),
+        kind: EventKind::UpdateEnd,
+    },
 ];
-
-/// An element whose position is after the new duration seeks to it; one whose position is the new
-/// duration, or before it, does not.
-#[test]
-fn seeks_to_a_lesser_duration(rt: HostRuntime) -> Result<(), Fail> {
-    let long = open(at(10 * SECOND)?, range(0, 6 * SECOND)?);
-    let mut element = loaded_element(&rt, &long)?;
-    let acts = [
-        ElementCall::Seek(5 * SECOND),
-        ElementCall::Fires(&[EventKind::Seeking]),
-    ];
-    run(&rt, &mut element, &long, &acts)?;
-    for (end, wanted, reached) in FALLS {
-        let scene = open(at(end)?, range(0, end)?);
-        expect_fall(&rt, &mut element, &scene, wanted, reached)?;
-    }
-    assert!(rt; element.seeking());
-    let endless = Scene {
-        duration: Moment::Infinite,
-        ..open(at(2 * SECOND)?, range(0, 2 * SECOND)?)
-    };
-    let wanted = [EventKind::DurationChange];
-    expect_fall(&rt, &mut element, &endless, &wanted, 2 * SECOND)
-}
-
-/// An element that was told where to start seeks there once its metadata is there, and stays there.
-#[test]
-fn loads_at_its_start(rt: HostRuntime) -> Result<(), Fail> {
-    let scene = open(at(10 * SECOND)?, range(0, 6 * SECOND)?);
-    let mut element = Element::new(rt.alloc());
-    element.reserve(1)?;
-    element.seek(time(5 * SECOND)?, &scene);
-    assert!(rt; fire_all(&mut element, &[]));
-    element.reserve(6)?;
-    element.load(&scene);
-    element.settle(&scene);
-    let wanted = [
-        EventKind::LoadedMetadata,
-        EventKind::Seeking,
-        EventKind::LoadedData,
-        EventKind::CanPlay,
-    ];
-    assert!(rt; fire_all(&mut element, &wanted));
-    assert_eq!(rt;
-        (element.position(), element.level()),
-        (time(5 * SECOND)?, Level::Future)
-    );
-    assert!(rt; element.due(&scene));
-    element.reserve(3)?;
-    assert!(rt; element.turn(&scene));
-    assert!(rt; fire_all(&mut element, &[EventKind::TimeUpdate, EventKind::Seeked]));
-    assert!(rt; !element.seeking() && !element.due(&scene));
-    element.reserve(3)?;
-    assert!(rt; !element.turn(&scene));
-    assert!(rt; fire_all(&mut element, &[]));
-    Ok(())
-}
-
-/// The element plays where its data is, and seeks to a place without data.
-const BEFORE_THE_DATA: [ElementCall; 3] = [
-    ElementCall::Play(None),
-    ElementCall::Fires(&[EventKind::Play, EventKind::Playing]),
-    ElementCall::Seek(5 * SECOND),
-];
-
-const WITHOUT_DATA: [ElementCall; 3] = [
-    ElementCall::Settle,
-    ElementCall::Fires(&[
-        EventKind::Seeking,
-        EventKind::TimeUpdate,
-        EventKind::Waiting,
-    ]),
-    ElementCall::Due(false),
-];
-
-const WITH_THE_DATA: [ElementCall; 4] = [
-    ElementCall::Settle,
-    ElementCall::Fires(&[EventKind::CanPlay, EventKind::Playing]),
-    ElementCall::Turn(true),
-    ElementCall::Fires(&[EventKind::TimeUpdate, EventKind::Seeked]),
-];
-
-/// A seek while the element plays, to a place whose data comes only later.
-#[test]
-fn seeks_while_it_plays(rt: HostRuntime) -> Result<(), Fail> {
-    let first = open(at(10 * SECOND)?, range(0, 2 * SECOND)?);
-    let mut element = loaded_element(&rt, &first)?;
-    run(&rt, &mut element, &first, &BEFORE_THE_DATA)?;
-    let nowhere = open(at(10 * SECOND)?, None);
-    run(&rt, &mut element, &nowhere, &WITHOUT_DATA)?;
-    let second = open(at(10 * SECOND)?, range(4 * SECOND, 6 * SECOND)?);
-    run(&rt, &mut element, &second, &WITH_THE_DATA)?;
-    assert_eq!(rt;
-        (element.level(), element.position()),
-        (Level::Future, time(5 * SECOND)?)
-    );
-    Ok(())
-}
-
-const TO_THE_END: [ElementCall; 7] = [
-    ElementCall::Play(None),
-    ElementCall::Fires(&[EventKind::Play, EventKind::Playing]),
-    ElementCall::Advance(-1, Some(Name::TypeError)),
-    ElementCall::Advance(SECOND, None),
-    ElementCall::Settle,
-    ElementCall::Turn(true),
-    ElementCall::Fires(&[
-        EventKind::TimeUpdate,
-        EventKind::TimeUpdate,
-        EventKind::Pause,
-        EventKind::Ended,
-    ]),
-];
-
-/// The element plays to the end of an ended source.
-#[test]
-fn plays_to_the_end(rt: HostRuntime) -> Result<(), Fail> {
-    let end = 14_112_000_000;
-    let scene = Scene {
-        ended: true,
-        ..open(at(end)?, range(0, end)?)
-    };
-    let mut element = loaded_element(&rt, &scene)?;
-    run(&rt, &mut element, &scene, &TO_THE_END)?;
-    assert_eq!(rt;
-        (element.level(), element.position()),
-        (Level::Current, time(end)?)
-    );
-    assert!(rt; element.paused());
-    Ok(())
-}
-
-/// An error before there is metadata is one of code 4, after which the element does not play.
-#[test]
-fn fails_without_metadata(rt: HostRuntime) -> Result<(), Fail> {
-    let scene = open(at(SECOND)?, None);
-    let mut element = Element::new(rt.alloc());
-    element.reserve(3)?;
-    element.pause();
-    element.fail(EndKind::Plain);
-    assert!(rt; fire_all(&mut element, &[]));
-    element.reserve(2)?;
-    element.fail(EndKind::Network);
-    element.fail(EndKind::Decode);
-    assert!(rt; fire_all(&mut element, &[EventKind::Error]));
-    assert_eq!(rt; element.error(), 4);
-    element.reserve(3)?;
-    assert_eq!(rt; element.play(&scene), Some(Name::NotSupported));
-    assert!(rt; fire_all(&mut element, &[]));
-    assert!(rt; element.paused());
-    Ok(())
-}

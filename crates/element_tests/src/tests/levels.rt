@@ -1,3 +1,5 @@
+//! How ready an element is, and the events of each change.
+
 use element_ready::{Facts, events_of_change, is_first_data, level};
 use mse_base::{Moment, Span, Ticks};
 use mse_calls::{EventKind, Level};
@@ -19,28 +21,26 @@ fn at(position: i128, end: i128, duration: i128) -> Result<Level, Fail> {
     Ok(level(Some(span), time(position)?, Moment::At(time(duration)?)))
 }
 
-/// The borders between the levels.
+/// The borders between the levels: a position, the end of the range from 0 on, and the duration.
+const BORDERS: [(i128, i128, i128, Level); 9] = [
+    (0, LONG, 10 * LONG, Level::Enough),
+    (0, LONG - 1, 10 * LONG, Level::Future),
+    (1, LONG, 10 * LONG, Level::Future),
+    (0, 1, 10 * LONG, Level::Future),
+    (0, 1, 1, Level::Enough),
+    (0, 1, 2, Level::Future),
+    (1, 1, 1, Level::Current),
+    (LONG, LONG, 10 * LONG, Level::Current),
+    (0, 0, 10 * LONG, Level::Current),
+];
+
 #[test]
 fn tells_levels(rt: HostRuntime) -> Result<(), Fail> {
-    let far = 10 * LONG;
-    assert_eq!(rt;
-        level(None, Ticks::zero(), Moment::Infinite),
-        Level::Metadata
-    );
-    for (position, end, duration, wanted) in [
-        (0, LONG, far, Level::Enough),
-        (0, LONG - 1, far, Level::Future),
-        (1, LONG, far, Level::Future),
-        (0, 1, far, Level::Future),
-        (0, 1, 1, Level::Enough),
-        (0, 1, 2, Level::Future),
-        (1, 1, 1, Level::Current),
-        (LONG, LONG, far, Level::Current),
-        (0, 0, far, Level::Current),
-    ] {
-        if at(position, end, duration)? != wanted {
-            return Err(Fail::new("another level"));
-        }
+    let without = level(None, Ticks::zero(), Moment::Infinite);
+    assert!(rt; without == Level::Metadata, "without a range");
+    for (position, end, duration, wanted) in &BORDERS {
+        let found = at(*position, *end, *duration)?;
+        assert!(rt; found == *wanted, "at {position} up to {end} of {duration}");
     }
     Ok(())
 }
@@ -67,79 +67,88 @@ const LEVELS: [Level; 5] = [
     Level::Enough,
 ];
 
-/// Whether all changes from and to each level fire the events of a table, a row for each old level.
-fn has_events_of_table(facts: Facts, table: &[[&str; 5]; 5]) -> bool {
-    for (old, row) in LEVELS.iter().zip(table.iter()) {
-        for (new, wanted) in LEVELS.iter().zip(row.iter()) {
-            let events = events_of_change(*old, *new, facts);
-            let mut letters = wanted.chars();
-            for kind in events.as_slice() {
-                if letters.next() != Some(letter(*kind)) {
-                    return false;
-                }
-            }
-            if letters.next().is_some() {
-                return false;
-            }
+/// Whether a change fires the events of these letters.
+fn fires(old: Level, new: Level, facts: Facts, wanted: &str) -> bool {
+    let events = events_of_change(old, new, facts);
+    let mut letters = wanted.chars();
+    for kind in events.as_slice() {
+        if letters.next() != Some(letter(*kind)) {
+            return false;
+        }
+    }
+    letters.next().is_none()
+}
+
+/// Whether all changes from a level fire the events of a row, in which there is one for each new
+/// level.
+fn fires_row(old: Level, facts: Facts, row: &[&str; 5]) -> bool {
+    for (new, wanted) in LEVELS.iter().zip(row.iter()) {
+        if !fires(old, *new, facts, wanted) {
+            return false;
         }
     }
     true
 }
 
-/// Each change of the level of an element that plays, that is paused, and that is at the end.
+/// What holds of an element, and the events of each change of its level: a row for each old level.
+type Table = (Facts, &'static [[&'static str; 5]; 5]);
+
+/// An element that plays, one that is paused, and one that is at the end.
+const TABLES: [Table; 3] = [
+    (
+        Facts {
+            playing: true,
+            paused: false,
+            first_loaded: false,
+        },
+        &[
+            ["", "m", "", "cp", "cpt"],
+            ["", "", "d", "dcp", "dcpt"],
+            ["", "", "", "cp", "cpt"],
+            ["", "uw", "uw", "", "t"],
+            ["", "uw", "uw", "", ""],
+        ],
+    ),
+    (
+        Facts {
+            playing: false,
+            paused: true,
+            first_loaded: true,
+        },
+        &[
+            ["", "m", "", "c", "ct"],
+            ["", "", "", "c", "ct"],
+            ["", "", "", "c", "ct"],
+            ["", "", "", "", "t"],
+            ["", "", "", "", ""],
+        ],
+    ),
+    (
+        Facts {
+            playing: false,
+            paused: false,
+            first_loaded: true,
+        },
+        &[
+            ["", "m", "", "cp", "cpt"],
+            ["", "", "", "cp", "cpt"],
+            ["", "", "", "cp", "cpt"],
+            ["", "", "", "", "t"],
+            ["", "", "", "", ""],
+        ],
+    ),
+];
+
 #[test]
 fn fires_events_of_changes(rt: HostRuntime) {
-    let playing = Facts {
-        playing: true,
-        paused: false,
-        first_loaded: false,
-    };
+    for (facts, table) in &TABLES {
+        for (i, (old, row)) in LEVELS.iter().zip(table.iter()).enumerate() {
+            assert!(rt; fires_row(*old, *facts, row), "{facts:?} from level {i}");
+        }
+    }
     assert!(rt;
-        has_events_of_table(
-            playing,
-            &[
-                ["", "m", "", "cp", "cpt"],
-                ["", "", "d", "dcp", "dcpt"],
-                ["", "", "", "cp", "cpt"],
-                ["", "uw", "uw", "", "t"],
-                ["", "uw", "uw", "", ""],
-            ]
-        )
+        is_first_data(Level::Metadata, Level::Enough),
+        "after metadata"
     );
-    let paused = Facts {
-        playing: false,
-        paused: true,
-        first_loaded: true,
-    };
-    assert!(rt;
-        has_events_of_table(
-            paused,
-            &[
-                ["", "m", "", "c", "ct"],
-                ["", "", "", "c", "ct"],
-                ["", "", "", "c", "ct"],
-                ["", "", "", "", "t"],
-                ["", "", "", "", ""],
-            ]
-        )
-    );
-    let at_the_end = Facts {
-        playing: false,
-        paused: false,
-        first_loaded: true,
-    };
-    assert!(rt;
-        has_events_of_table(
-            at_the_end,
-            &[
-                ["", "m", "", "cp", "cpt"],
-                ["", "", "", "cp", "cpt"],
-                ["", "", "", "cp", "cpt"],
-                ["", "", "", "", "t"],
-                ["", "", "", "", ""],
-            ]
-        )
-    );
-    assert!(rt; is_first_data(Level::Metadata, Level::Enough));
-    assert!(rt; !is_first_data(Level::Current, Level::Enough));
+    assert!(rt; !is_first_data(Level::Current, Level::Enough), "after data");
 }

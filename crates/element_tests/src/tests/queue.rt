@@ -1,28 +1,36 @@
+//! The queue of events.
+
 use mse_calls::{Event, EventKind, Target};
 use std::test::Fail;
 use task_queue::Queue;
+
+/// The event of the buffer of a number.
+fn event_of(number: u32) -> Event {
+    Event {
+        target: Target::Buffer(number),
+        kind: EventKind::Update,
+    }
+}
 
 /// What is queued first is fired first, also where the queue has gone round in its room.
 #[test]
 fn first_in_first_out(rt: HostRuntime) -> Result<(), Fail> {
     let mut queue = Queue::new(rt.alloc());
-    assert!(rt; queue.pop().is_none());
+    assert!(rt; queue.pop().is_none(), "before all");
     for round in 0..5 {
         queue.reserve(3)?;
         for place in 0..3 {
-            if queue.is_empty() != (place == 0) {
-                return Err(Fail::new("another length"));
-            }
+            assert!(rt;
+                queue.is_empty() == (place == 0),
+                "round {round}, event {place}"
+            );
             queue.reserve(1)?;
-            queue.push_reserved(Event {
-                target: Target::Buffer(round * 3 + place),
-                kind: EventKind::Update,
-            });
+            queue.push_reserved(event_of(round * 3 + place));
         }
         for place in 0..3 {
-            let event = queue.pop().ok_or("no event")?;
-            assert_eq!(rt; event.target, Target::Buffer(round * 3 + place));
-            assert_eq!(rt; queue.len(), 2 - place as usize);
+            let same = queue.pop() == Some(event_of(round * 3 + place));
+            let left = queue.len() == 2 - place as usize;
+            assert!(rt; same && left, "round {round}, event {place}");
         }
     }
     Ok(())

@@ -1,52 +1,81 @@
-use super::made_boxes::bytes_of_box;
+use super::made_boxes::{Boxes, Part};
 use bmff_init::InitFault;
 use sample_tables::*;
 use std::alloc::Global;
+use std::process::Abort;
 use std::test::*;
 
 /// A full box: its type, its version, and the numbers of four bytes behind its flags.
 type Table = ([u8; 4], u8, &'static [u32]);
 
-fn put_table(alloc: Global, bytes: &mut Vec<u8>, table: &Table) -> Result<(), Fail> {
+/// A classic file of 32 bytes of media and a movie box, up to the handler of its one track.
+const FILE_FRONT: [Part<'static>; 27] = [
+    Part::Open(b"mdat"),
+    Part::Bytes(&[0; 24]),
+    Part::Close,
+    Part::Open(b"moov"),
+    Part::Open(b"mvhd"),
+    Part::Bytes(&[0; 14]),
+    Part::Bytes(&[3, 0xE8, 0, 0, 0, 0]),
+    Part::Close,
+    Part::Open(b"trak"),
+    Part::Open(b"tkhd"),
+    Part::Bytes(&[0; 12]),
+    Part::Bytes(&[0, 0, 0, 7]),
+    Part::Close,
+    Part::Open(b"edts"),
+    Part::Open(b"elst"),
+    Part::Bytes(&[0, 0, 0, 0, 0, 0, 0, 2]),
+    Part::Bytes(&[0, 0, 1, 0xF4, 0xFF, 0xFF, 0xFF, 0xFF, 0, 1, 0, 0]),
+    Part::Bytes(&[0, 0, 0, 0, 0, 0, 0, 30, 0, 1, 0, 0]),
+    Part::Close,
+    Part::Close,
+    Part::Open(b"mdia"),
+    Part::Open(b"mdhd"),
+    Part::Bytes(&[0; 12]),
+    Part::Bytes(&[0, 1, 0x5F, 0x90]),
+    Part::Close,
+    Part::Open(b"hdlr"),
+    Part::Bytes(&[0; 8]),
+];
+
+/// What stands between the handler and the tables.
+const SAMPLE_ENTRY: [Part<'static>; 8] = [
+    Part::Close,
+    Part::Open(b"minf"),
+    Part::Open(b"stbl"),
+    Part::Open(b"stsd"),
+    Part::Bytes(&[0, 0, 0, 0, 0, 0, 0, 1]),
+    Part::Open(b"mp4a"),
+    Part::Close,
+    Part::Close,
+];
+
+/// The ends of the boxes round the tables.
+const FILE_END: [Part<'static>; 5] = [Part::Close; 5];
+
+/// Appends a table as a box.
+fn put_table(boxes: &mut Boxes, table: &Table) -> Result<(), Fail> {
     let (kind, version, numbers) = table;
-    let mut payload = Vec::from_slice(alloc, &[*version, 0, 0, 0])?;
+    boxes.open(kind)?;
+    boxes.push(&[*version, 0, 0, 0])?;
     for number in *numbers {
-        payload.extend_from_slice(&number.to_be_bytes())?;
+        boxes.push(&number.to_be_bytes())?;
     }
-    let made = bytes_of_box(alloc, kind, &[payload.as_slice()])?;
-    bytes.extend_from_slice(made.as_slice())?;
-    Ok(())
+    boxes.close()
 }
 
 /// A classic file of 32 bytes of media and a movie box with one track of these tables.
 fn classic(alloc: Global, handler: &[u8; 4], tables: &[Table]) -> Result<Vec<u8>, Fail> {
-    let entry = bytes_of_box(alloc, b"mp4a", &[])?;
-    let mut stbl = bytes_of_box(
-        alloc,
-        b"stsd",
-        &[&[0, 0, 0, 0, 0, 0, 0, 1], entry.as_slice()],
-    )?;
+    let mut boxes = Boxes::new(alloc);
+    boxes.put(&FILE_FRONT)?;
+    boxes.push(handler)?;
+    boxes.put(&SAMPLE_ENTRY)?;
     for table in tables {
-        put_table(alloc, &mut stbl, table)?;
+        put_table(&mut boxes, table)?;
     }
-    let stbl = bytes_of_box(alloc, b"stbl", &[stbl.as_slice()])?;
-    let minf = bytes_of_box(alloc, b"minf", &[stbl.as_slice()])?;
-    let mdhd = bytes_of_box(alloc, b"mdhd", &[&[0; 12], &[0, 1, 0x5F, 0x90]])?;
-    let hdlr = bytes_of_box(alloc, b"hdlr", &[&[0; 8], handler])?;
-    let media = [mdhd.as_slice(), hdlr.as_slice(), minf.as_slice()];
-    let mdia = bytes_of_box(alloc, b"mdia", &media)?;
-    let tkhd = bytes_of_box(alloc, b"tkhd", &[&[0; 12], &[0, 0, 0, 7]])?;
-    let empty = [0, 0, 1, 0xF4, 0xFF, 0xFF, 0xFF, 0xFF, 0, 1, 0, 0];
-    let plain = [0, 0, 0, 0, 0, 0, 0, 30, 0, 1, 0, 0];
-    let elst = bytes_of_box(alloc, b"elst", &[&[0, 0, 0, 0, 0, 0, 0, 2], &empty, &plain])?;
-    let edts = bytes_of_box(alloc, b"edts", &[elst.as_slice()])?;
-    let track = [tkhd.as_slice(), edts.as_slice(), mdia.as_slice()];
-    let trak = bytes_of_box(alloc, b"trak", &track)?;
-    let mvhd = bytes_of_box(alloc, b"mvhd", &[&[0; 14], &[3, 0xE8, 0, 0, 0, 0]])?;
-    let moov = bytes_of_box(alloc, b"moov", &[mvhd.as_slice(), trak.as_slice()])?;
-    let mut file = bytes_of_box(alloc, b"mdat", &[&[0; 24]])?;
-    file.extend_from_slice(moov.as_slice())?;
-    Ok(file)
+    boxes.put(&FILE_END)?;
+    Ok(boxes.into_bytes())
 }
 
 /// What a sample is: decode time, place, size, duration, composition offset, and whether it is a sync sample.
@@ -102,26 +131,37 @@ const SECOND_TOLD: [Told; 5] = [
     (60, 24, 2, 20, 6, true),
 ];
 
-#[test]
-fn samples_of_tables(rt: HostRuntime) -> Result<(), Fail> {
-    let alloc = rt.alloc();
-    let cases: [(&[Table], &[Told]); 2] = [(&FIRST, &FIRST_TOLD), (&SECOND, &SECOND_TOLD)];
-    for (tables, want) in cases {
-        let file = classic(alloc, b"soun", tables)?;
-        let tracks = read_file(alloc, file.as_slice()).ok().ok_or("tracks")?;
-        let track = tracks.as_slice().first().ok_or("a track")?;
-        assert_eq!(rt;
-            (track.info.id, track.lag, track.info.media_shift),
-            (7, 45_000, 30)
-        );
-        assert_eq!(rt; track.codec, *b"mp4a");
-        assert_eq!(rt; track.stsd.len(), 24);
-        assert_eq!(rt; track.samples.len(), want.len());
-        for (sample, wanted) in track.samples.as_slice().iter().zip(want.iter()) {
-            assert_eq!(rt; view_of_sample(sample), *wanted);
-        }
+/// Asserts the samples of the one track of a file.
+fn expect_samples(
+    rt: &(impl Abort + AllocGlobal),
+    tables: &[Table],
+    want: &[Told],
+) -> Result<(), Fail> {
+    let file = classic(rt.alloc(), b"soun", tables)?;
+    let tracks = read_file(rt.alloc(), file.as_slice()).ok().ok_or("tracks")?;
+    let track = tracks.as_slice().first().ok_or("a track")?;
+    assert!(rt; is_track_of_the_file(track));
+    assert!(rt; track.samples.len() == want.len());
+    for (sample, wanted) in track.samples.as_slice().iter().zip(want.iter()) {
+        assert!(rt; view_of_sample(sample) == *wanted, "{wanted:?}");
     }
     Ok(())
+}
+
+/// Whether what a track has beside its samples is what the file tells: its number, the time by which it begins later,
+/// where in the media it begins, its codec, and a sample description of 24 bytes.
+fn is_track_of_the_file(track: &MediaTrack) -> bool {
+    track.info.id == 7
+        && track.lag == 45_000
+        && track.info.media_shift == 30
+        && track.codec == *b"mp4a"
+        && track.stsd.len() == 24
+}
+
+#[test]
+fn samples_of_tables(rt: HostRuntime) -> Result<(), Fail> {
+    expect_samples(&rt, &FIRST, &FIRST_TOLD)?;
+    expect_samples(&rt, &SECOND, &SECOND_TOLD)
 }
 
 fn fault_of(outcome: Result<Vec<MediaTrack>, FileError>) -> Option<PlacedFault> {
@@ -159,48 +199,70 @@ const FAULTS: [(usize, Table, MovieFault); 13] = [
     (5, (*b"free", 0, &[0]), MISSING),
 ];
 
-#[test]
-fn faults_of_tables(rt: HostRuntime) -> Result<(), Fail> {
-    let alloc = rt.alloc();
-    for (at, table, fault) in FAULTS {
-        let mut tables = FIRST;
-        if at < tables.len() {
-            tables[at] = table;
-        }
-        let file = classic(alloc, b"soun", &tables)?;
-        let found = fault_of(read_file(alloc, file.as_slice()));
-        assert_eq!(rt; found, Some(PlacedFault { fault, offset: 32 }), "{table:?}");
-    }
-    let none = classic(alloc, b"soun", &[])?;
-    let fault = MovieFault::Moov(InitFault::Missing(*b"stts"));
-    let found = fault_of(read_file(alloc, none.as_slice()));
-    assert_eq!(rt; found, Some(PlacedFault { fault, offset: 32 }));
-    let text = classic(alloc, b"text", &FIRST)?;
-    let fault = MovieFault::NoTracks;
-    let found = fault_of(read_file(alloc, text.as_slice()));
-    assert_eq!(rt; found, Some(PlacedFault { fault, offset: 32 }));
+/// Asserts the fault of a file, which is that of its movie box.
+fn expect_fault(
+    rt: &(impl Abort + AllocGlobal),
+    handler: &[u8; 4],
+    tables: &[Table],
+    fault: MovieFault,
+) -> Result<(), Fail> {
+    let file = classic(rt.alloc(), handler, tables)?;
+    let found = fault_of(read_file(rt.alloc(), file.as_slice()));
+    assert!(rt;
+        found == Some(PlacedFault { fault, offset: 32 }),
+        "{fault:?}"
+    );
     Ok(())
 }
+
+/// The first tables, with another in the place of one.
+fn tables_with(at: usize, table: Table) -> [Table; 6] {
+    let mut tables = FIRST;
+    if at < tables.len() {
+        tables[at] = table;
+    }
+    tables
+}
+
+const NO_DURATIONS: MovieFault = MovieFault::Moov(InitFault::Missing(*b"stts"));
+
+#[test]
+fn faults_of_tables(rt: HostRuntime) -> Result<(), Fail> {
+    for (at, table, fault) in &FAULTS {
+        expect_fault(&rt, b"soun", &tables_with(*at, *table), *fault)?;
+    }
+    expect_fault(&rt, b"soun", &[], NO_DURATIONS)?;
+    expect_fault(&rt, b"text", &FIRST, MovieFault::NoTracks)
+}
+
+/// How many samples the one track of a file has, and how many of them are sync samples.
+fn counts(alloc: Global, tables: &[Table]) -> Result<(usize, usize), Fail> {
+    let file = classic(alloc, b"vide", tables)?;
+    let tracks = read_file(alloc, file.as_slice()).ok().ok_or("tracks")?;
+    let track = tracks.as_slice().first().ok_or("a track")?;
+    let samples = track.samples.as_slice();
+    Ok((
+        samples.len(),
+        samples.iter().filter(|sample| sample.sync).count(),
+    ))
+}
+
+/// A table of sync samples without entries.
+const NO_SYNC_SAMPLES: Table = (*b"stss", 0, &[0]);
+
+const NO_SAMPLES: [Table; 4] = [
+    (*b"stts", 0, &[0]),
+    (*b"stsz", 0, &[0, 0]),
+    (*b"stsc", 0, &[0]),
+    (*b"stco", 0, &[0]),
+];
 
 /// A table of sync samples without entries says that there is none, and a track may have no samples.
 #[test]
 fn empty_tables(rt: HostRuntime) -> Result<(), Fail> {
-    let alloc = rt.alloc();
-    let mut tables = FIRST;
-    tables[2] = (*b"stss", 0, &[0]);
-    let file = classic(alloc, b"vide", &tables)?;
-    let tracks = read_file(alloc, file.as_slice()).ok().ok_or("tracks")?;
-    let track = tracks.as_slice().first().ok_or("a track")?;
-    assert!(rt; !track.samples.as_slice().iter().any(|sample| sample.sync));
-    let none: [Table; 4] = [
-        (*b"stts", 0, &[0]),
-        (*b"stsz", 0, &[0, 0]),
-        (*b"stsc", 0, &[0]),
-        (*b"stco", 0, &[0]),
-    ];
-    let file = classic(alloc, b"vide", &none)?;
-    let tracks = read_file(alloc, file.as_slice()).ok().ok_or("tracks")?;
-    let track = tracks.as_slice().first().ok_or("a track")?;
-    assert_eq!(rt; track.samples.len(), 0);
+    let none_sync = counts(rt.alloc(), &tables_with(2, NO_SYNC_SAMPLES))?;
+    assert!(rt; none_sync == (5, 0), "{none_sync:?}");
+    let none = counts(rt.alloc(), &NO_SAMPLES)?;
+    assert!(rt; none == (0, 0), "{none:?}");
     Ok(())
 }

@@ -1,66 +1,77 @@
-use super::made_boxes::{bytes_of_box, overwrite};
+use super::made_boxes::{Part, made, overwrite};
 use bmff_init::InitFault;
 use md5::{Digest, Md5};
 use mse_base::Bytes;
 use remux::*;
 use sample_tables::PlacedFault;
 use std::alloc::Global;
+use std::process::Abort;
 use std::test::*;
 
-/// A sample table box of three samples of four bytes in one chunk at 32, of which the first is a sync sample.
-fn sample_table(alloc: Global) -> Result<Vec<u8>, Fail> {
-    let dpi = [0, 0x48, 0, 0, 0, 0x48, 0, 0];
-    let avc1 = bytes_of_box(
-        alloc,
-        b"avc1",
-        &[
-            &[0, 0, 0, 0, 0, 0, 0, 1],
-            &[0; 20],
-            &dpi,
-            &[0, 0, 0, 0, 0, 1],
-            &[0; 32],
-            &[0, 0x18, 0xFF, 0xFF],
-        ],
-    )?;
-    let count = [0, 0, 0, 0, 0, 0, 0, 1];
-    let stsd = bytes_of_box(alloc, b"stsd", &[&count, avc1.as_slice()])?;
-    let stts = bytes_of_box(alloc, b"stts", &[&count, &[0, 0, 0, 3, 0, 0, 0x0B, 0xB8]])?;
-    let stss = bytes_of_box(alloc, b"stss", &[&count, &[0, 0, 0, 1]])?;
-    let chunks = [0, 0, 0, 1, 0, 0, 0, 3, 0, 0, 0, 1];
-    let stsc = bytes_of_box(alloc, b"stsc", &[&count, &chunks])?;
-    let stsz = bytes_of_box(alloc, b"stsz", &[&[0, 0, 0, 0, 0, 0, 0, 4, 0, 0, 0, 3]])?;
-    let stco = bytes_of_box(alloc, b"stco", &[&count, &[0, 0, 0, 32]])?;
-    bytes_of_box(
-        alloc,
-        b"stbl",
-        &[
-            stsd.as_slice(),
-            stts.as_slice(),
-            stss.as_slice(),
-            stsc.as_slice(),
-            stsz.as_slice(),
-            stco.as_slice(),
-        ],
-    )
-}
+/// A classic file of one video track, whose movie box is at 44. Its three samples of four bytes are one chunk at 32, and
+/// the first is a sync sample.
+const CLASSIC: [Part<'static>; 57] = [
+    Part::Open(b"ftyp"),
+    Part::Bytes(b"iso6\0\0\0\0iso6mp41"),
+    Part::Close,
+    Part::Open(b"mdat"),
+    Part::Bytes(&[0; 12]),
+    Part::Close,
+    Part::Open(b"moov"),
+    Part::Open(b"mvhd"),
+    Part::Bytes(&[0; 14]),
+    Part::Bytes(&[3, 0xE8, 0, 0, 0, 0]),
+    Part::Close,
+    Part::Open(b"trak"),
+    Part::Open(b"tkhd"),
+    Part::Bytes(&[0; 12]),
+    Part::Bytes(&[0, 0, 0, 1]),
+    Part::Close,
+    Part::Open(b"mdia"),
+    Part::Open(b"mdhd"),
+    Part::Bytes(&[0; 12]),
+    Part::Bytes(&[0, 1, 0x5F, 0x90]),
+    Part::Close,
+    Part::Open(b"hdlr"),
+    Part::Bytes(b"\0\0\0\0\0\0\0\0vide"),
+    Part::Close,
+    Part::Open(b"minf"),
+    Part::Open(b"stbl"),
+    Part::Open(b"stsd"),
+    Part::Bytes(&[0, 0, 0, 0, 0, 0, 0, 1]),
+    Part::Open(b"avc1"),
+    Part::Bytes(&[0, 0, 0, 0, 0, 0, 0, 1]),
+    Part::Bytes(&[0; 20]),
+    Part::Bytes(&[0, 0x48, 0, 0, 0, 0x48, 0, 0]),
+    Part::Bytes(&[0, 0, 0, 0, 0, 1]),
+    Part::Bytes(&[0; 32]),
+    Part::Bytes(&[0, 0x18, 0xFF, 0xFF]),
+    Part::Close,
+    Part::Close,
+    Part::Open(b"stts"),
+    Part::Bytes(&[0, 0, 0, 0, 0, 0, 0, 1, 0, 0, 0, 3, 0, 0, 0x0B, 0xB8]),
+    Part::Close,
+    Part::Open(b"stss"),
+    Part::Bytes(&[0, 0, 0, 0, 0, 0, 0, 1, 0, 0, 0, 1]),
+    Part::Close,
+    Part::Open(b"stsc"),
+    Part::Bytes(&[0, 0, 0, 0, 0, 0, 0, 1, 0, 0, 0, 1, 0, 0, 0, 3, 0, 0, 0, 1]),
+    Part::Close,
+    Part::Open(b"stsz"),
+    Part::Bytes(&[0, 0, 0, 0, 0, 0, 0, 4, 0, 0, 0, 3]),
+    Part::Close,
+    Part::Open(b"stco"),
+    Part::Bytes(&[0, 0, 0, 0, 0, 0, 0, 1, 0, 0, 0, 32]),
+    Part::Close,
+    Part::Close,
+    Part::Close,
+    Part::Close,
+    Part::Close,
+    Part::Close,
+];
 
-/// A classic file of one video track, whose movie box is at 44.
 fn classic(alloc: Global) -> Result<Vec<u8>, Fail> {
-    let tkhd = bytes_of_box(alloc, b"tkhd", &[&[0; 12], &[0, 0, 0, 1]])?;
-    let mdhd = bytes_of_box(alloc, b"mdhd", &[&[0; 12], &[0, 1, 0x5F, 0x90]])?;
-    let hdlr = bytes_of_box(alloc, b"hdlr", &[&[0; 8], b"vide"])?;
-    let stbl = sample_table(alloc)?;
-    let minf = bytes_of_box(alloc, b"minf", &[stbl.as_slice()])?;
-    let media = [mdhd.as_slice(), hdlr.as_slice(), minf.as_slice()];
-    let mdia = bytes_of_box(alloc, b"mdia", &media)?;
-    let trak = bytes_of_box(alloc, b"trak", &[tkhd.as_slice(), mdia.as_slice()])?;
-    let mvhd = bytes_of_box(alloc, b"mvhd", &[&[0; 14], &[3, 0xE8, 0, 0, 0, 0]])?;
-    let moov = bytes_of_box(alloc, b"moov", &[mvhd.as_slice(), trak.as_slice()])?;
-    let mut file = bytes_of_box(alloc, b"ftyp", &[b"iso6", &[0; 4], b"iso6mp41"])?;
-    let mdat = bytes_of_box(alloc, b"mdat", &[&[0; 12]])?;
-    file.extend_from_slice(mdat.as_slice())?;
-    file.extend_from_slice(moov.as_slice())?;
-    Ok(file)
+    made(alloc, &CLASSIC)
 }
 
 fn whole(alloc: Global, pieces: &[Bytes]) -> Result<Vec<u8>, Fail> {
@@ -71,23 +82,27 @@ fn whole(alloc: Global, pieces: &[Bytes]) -> Result<Vec<u8>, Fail> {
     Ok(bytes)
 }
 
+/// A fault of a file, by its place.
+fn fault_at(fault: RemuxFault, offset: u64) -> Option<RemuxError> {
+    Some(RemuxError::Fault(PlacedFault { fault, offset }))
+}
+
+fn digest_of(bytes: &[u8]) -> u128 {
+    u128::from_be_bytes(Md5::digest(bytes))
+}
+
 /// The bytes are known by their digest, since another program wrote them.
 #[test]
 fn fragments_of_a_video_track(rt: HostRuntime) -> Result<(), Fail> {
     let alloc = rt.alloc();
     let file = classic(alloc)?;
     let pieces = remux(alloc, file.as_slice()).ok().ok_or("pieces")?;
-    assert_eq!(rt; pieces.len(), 2);
+    assert!(rt; pieces.len() == 2);
     let bytes = whole(alloc, pieces.as_slice())?;
-    assert_eq!(rt; bytes.len(), 751);
-    let digest = u128::from_be_bytes(Md5::digest(bytes.as_slice()));
-    assert_eq!(rt; digest, 0x71064bb2_ef61b365_34c3a50c_c680d4e3);
-    let again = remux(alloc, bytes.as_slice());
-    let fault = RemuxFault::Fragmented;
-    assert_eq!(rt;
-        again.err(),
-        Some(RemuxError::Fault(PlacedFault { fault, offset: 24 }))
-    );
+    assert!(rt; bytes.len() == 751);
+    assert!(rt; digest_of(bytes.as_slice()) == 0x71064bb2_ef61b365_34c3a50c_c680d4e3);
+    let again = remux(alloc, bytes.as_slice()).err();
+    assert!(rt; again == fault_at(RemuxFault::Fragmented, 24));
     Ok(())
 }
 
@@ -138,32 +153,26 @@ const FAULTS: [Change; 21] = [
     (*b"tkhd", 20, &[0; 4], RemuxFault::Range),
 ];
 
+/// Asserts the fault of the file with bytes written over those of a box.
+fn expect_fault(rt: &(impl Abort + AllocGlobal), change: &Change, offset: u64) -> Result<(), Fail> {
+    let (kind, at, new, fault) = change;
+    let mut file = classic(rt.alloc())?;
+    overwrite(&mut file, kind, *at, new)?;
+    let found = remux(rt.alloc(), file.as_slice()).err();
+    assert!(rt; found == fault_at(*fault, offset), "{kind:?} {at}");
+    Ok(())
+}
+
+/// The size of the media is past the end of the file.
+const CUT_OFF: Change = (*b"mdat", 0, &[0xFF], RemuxFault::Box);
+
 #[test]
 fn faults(rt: HostRuntime) -> Result<(), Fail> {
-    let alloc = rt.alloc();
-    for (kind, at, new, fault) in FAULTS {
-        let mut file = classic(alloc)?;
-        overwrite(&mut file, &kind, at, new)?;
-        let given = remux(alloc, file.as_slice()).err();
-        assert_eq!(rt;
-            given,
-            Some(RemuxError::Fault(PlacedFault { fault, offset: 44 })),
-            "{kind:?} {at}"
-        );
+    for change in &FAULTS {
+        expect_fault(&rt, change, 44)?;
     }
-    let none = remux(alloc, &[]).err();
-    let fault = RemuxFault::NoMoov;
-    assert_eq!(rt;
-        none,
-        Some(RemuxError::Fault(PlacedFault { fault, offset: 0 }))
-    );
-    let mut file = classic(alloc)?;
-    overwrite(&mut file, b"mdat", 0, &[0xFF])?;
-    let fault = RemuxFault::Box;
-    let cut = remux(alloc, file.as_slice()).err();
-    assert_eq!(rt;
-        cut,
-        Some(RemuxError::Fault(PlacedFault { fault, offset: 24 }))
-    );
+    expect_fault(&rt, &CUT_OFF, 24)?;
+    let none = remux(rt.alloc(), &[]).err();
+    assert!(rt; none == fault_at(RemuxFault::NoMoov, 0));
     Ok(())
 }

@@ -47,9 +47,9 @@ fn drop_back(rt: &impl Abort, chunks: &mut Chunks, n: usize) {
     chunks.drop_back(n);
 }
 
-fn expect_first(rt: &impl Abort, chunks: &Chunks, want: &[u8]) {
+fn is_first(rt: &impl Abort, chunks: &Chunks, want: &[u8]) -> bool {
     assert!(rt; chunks.pieces() > 0);
-    assert_eq!(rt; chunks.piece(0), want);
+    chunks.piece(0) == want
 }
 
 /// A copy of so many bytes from a place on.
@@ -58,30 +58,43 @@ fn copy(rt: &impl Abort, chunks: &Chunks, from: usize, n: usize) -> Result<Bytes
     Ok(chunks.copy(from, n)?)
 }
 
-fn expect_copy(rt: &impl Abort, chunks: &Chunks, want: &[u8]) -> Result<(), Fail> {
+fn is_copy(rt: &impl Abort, chunks: &Chunks, want: &[u8]) -> Result<bool, Fail> {
     let bytes = copy(rt, chunks, 0, want.len())?;
-    assert_eq!(rt; bytes.as_slice(), want);
-    Ok(())
+    Ok(bytes.as_slice() == want)
 }
 
-fn expect_read(rt: &impl Abort, chunks: &Chunks, want: u8) {
+fn is_read(rt: &impl Abort, chunks: &Chunks, want: u8) -> bool {
     assert!(rt; chunks.len() > 0);
     let mut one = [0u8; 1];
     chunks.read(0, &mut one);
-    assert_eq!(rt; one, [want]);
+    one == [want]
 }
 
-fn take(rt: &(impl Abort + AllocGlobal), chunks: &mut Chunks, call: PieceCall) -> Result<(), Fail> {
+/// Does it. Whether what is asserted holds.
+fn holds(
+    rt: &(impl Abort + AllocGlobal),
+    chunks: &mut Chunks,
+    call: PieceCall,
+) -> Result<bool, Fail> {
     match call {
         PieceCall::Push(bytes) => push(rt, chunks, bytes)?,
         PieceCall::PushBytes(bytes) => push_bytes(rt, chunks, Bytes::copy_of(rt.alloc(), bytes)?)?,
         PieceCall::DropFront(n) => drop_front(rt, chunks, n),
         PieceCall::DropBack(n) => drop_back(rt, chunks, n),
-        PieceCall::Len(want) => assert_eq!(rt; chunks.len(), want),
-        PieceCall::Pieces(want) => assert_eq!(rt; chunks.pieces(), want),
-        PieceCall::First(want) => expect_first(rt, chunks, want),
-        PieceCall::Copy(want) => expect_copy(rt, chunks, want)?,
-        PieceCall::Read(want) => expect_read(rt, chunks, want),
+        PieceCall::Len(want) => return Ok(chunks.len() == want),
+        PieceCall::Pieces(want) => return Ok(chunks.pieces() == want),
+        PieceCall::First(want) => return Ok(is_first(rt, chunks, want)),
+        PieceCall::Copy(want) => return is_copy(rt, chunks, want),
+        PieceCall::Read(want) => return Ok(is_read(rt, chunks, want)),
+    }
+    Ok(true)
+}
+
+/// Does one after the other.
+fn play(rt: &(impl Abort + AllocGlobal), calls: &[PieceCall]) -> Result<(), Fail> {
+    let mut chunks = Chunks::new(rt.alloc());
+    for (i, call) in calls.iter().enumerate() {
+        assert!(rt; holds(rt, &mut chunks, *call)?, "call {i}");
     }
     Ok(())
 }
@@ -113,11 +126,7 @@ const COPIED: [PieceCall; 19] = [
 /// What no clause says: that memory which is there is taken, and the limit of 4096 by numbers.
 #[test]
 fn pieces_join_and_split(rt: HostRuntime) -> Result<(), Fail> {
-    let mut chunks = Chunks::new(rt.alloc());
-    for call in COPIED {
-        take(&rt, &mut chunks, call)?;
-    }
-    Ok(())
+    play(&rt, &COPIED)
 }
 
 const SHARED: [PieceCall; 11] = [
@@ -137,11 +146,7 @@ const SHARED: [PieceCall; 11] = [
 /// Bytes whose memory is shared make the pieces that they make when they are copied.
 #[test]
 fn owned_pieces_join_and_split(rt: HostRuntime) -> Result<(), Fail> {
-    let mut chunks = Chunks::new(rt.alloc());
-    for call in SHARED {
-        take(&rt, &mut chunks, call)?;
-    }
-    Ok(())
+    play(&rt, &SHARED)
 }
 
 /// Parts of a long piece stay as they are, whatever becomes of the piece.
@@ -155,12 +160,12 @@ fn parts_of_a_long_piece_stay(rt: HostRuntime) -> Result<(), Fail> {
     let none = copy(&rt, &chunks, 5000, 0)?;
     drop_front(&rt, &mut chunks, 4998);
     push(&rt, &mut chunks, b"ab")?;
-    assert_eq!(rt; chunks.pieces(), 1);
-    expect_first(&rt, &chunks, b"\x07\x07ab");
+    assert!(rt; chunks.pieces() == 1);
+    assert!(rt; is_first(&rt, &chunks, b"\x07\x07ab"));
     drop_back(&rt, &mut chunks, 4);
-    assert_eq!(rt; front.as_slice(), b"\x07\x07".as_slice());
-    assert_eq!(rt; back.as_slice(), b"\x07\x07".as_slice());
+    assert!(rt; front.as_slice() == b"\x07\x07".as_slice());
+    assert!(rt; back.as_slice() == b"\x07\x07".as_slice());
     assert!(rt; none.is_empty());
-    assert_eq!(rt; piece.len(), 5000);
+    assert!(rt; piece.len() == 5000);
     Ok(())
 }

@@ -1,6 +1,6 @@
 mod segments;
 
-use super::made_boxes::{bytes_of_box, overwrite};
+use super::made_boxes::{Boxes, Part, made, overwrite};
 use bmff_init::*;
 use mse_base::{Kind, Moment, Presentation, Ticks, TrackInfo};
 use segments::{AV1, ONE_VIDEO_TRACK, OPUS, REORDERED, TWO_TRACKS};
@@ -8,37 +8,60 @@ use std::alloc::Global;
 use std::process::Abort;
 use std::test::*;
 
+/// A track box, up to the last byte of its number.
+const TRACK_HEAD: [Part<'static>; 3] = [
+    Part::Open(b"trak"),
+    Part::Open(b"tkhd"),
+    Part::Bytes(&[0; 15]),
+];
+
+/// A media box with the timescale 90000, up to its handler.
+const MEDIA_HEAD: [Part<'static>; 7] = [
+    Part::Open(b"mdia"),
+    Part::Open(b"mdhd"),
+    Part::Bytes(&[0; 12]),
+    Part::Bytes(&[0, 1, 0x5F, 0x90]),
+    Part::Close,
+    Part::Open(b"hdlr"),
+    Part::Bytes(&[0; 8]),
+];
+
+/// One `avc1` sample entry and no samples, up to the end of the track.
+const TABLES: [Part<'static>; 21] = [
+    Part::Close,
+    Part::Open(b"minf"),
+    Part::Open(b"stbl"),
+    Part::Open(b"stsd"),
+    Part::Bytes(&[0, 0, 0, 0, 0, 0, 0, 1]),
+    Part::Open(b"avc1"),
+    Part::Close,
+    Part::Close,
+    Part::Open(b"stts"),
+    Part::Bytes(&[0; 8]),
+    Part::Close,
+    Part::Open(b"stsc"),
+    Part::Bytes(&[0; 8]),
+    Part::Close,
+    Part::Open(b"stco"),
+    Part::Bytes(&[0; 8]),
+    Part::Close,
+    Part::Close,
+    Part::Close,
+    Part::Close,
+    Part::Close,
+];
+
 /// A track box with the timescale 90000 and one `avc1` sample entry, and with an edit box if it is given one.
 fn track(alloc: Global, number: u8, handler: &[u8; 4], edts: &[u8]) -> Result<Vec<u8>, Fail> {
-    let tkhd = bytes_of_box(alloc, b"tkhd", &[&[0; 12], &[0, 0, 0, number]])?;
-    let mdhd = bytes_of_box(alloc, b"mdhd", &[&[0; 12], &[0, 1, 0x5F, 0x90]])?;
-    let hdlr = bytes_of_box(alloc, b"hdlr", &[&[0; 8], handler])?;
-    let avc1 = bytes_of_box(alloc, b"avc1", &[])?;
-    let stsd = bytes_of_box(
-        alloc,
-        b"stsd",
-        &[&[0, 0, 0, 0, 0, 0, 0, 1], avc1.as_slice()],
-    )?;
-    let stts = bytes_of_box(alloc, b"stts", &[&[0; 8]])?;
-    let stsc = bytes_of_box(alloc, b"stsc", &[&[0; 8]])?;
-    let stco = bytes_of_box(alloc, b"stco", &[&[0; 8]])?;
-    let stbl = bytes_of_box(
-        alloc,
-        b"stbl",
-        &[
-            stsd.as_slice(),
-            stts.as_slice(),
-            stsc.as_slice(),
-            stco.as_slice(),
-        ],
-    )?;
-    let minf = bytes_of_box(alloc, b"minf", &[stbl.as_slice()])?;
-    let mdia = bytes_of_box(
-        alloc,
-        b"mdia",
-        &[mdhd.as_slice(), hdlr.as_slice(), minf.as_slice()],
-    )?;
-    bytes_of_box(alloc, b"trak", &[tkhd.as_slice(), edts, mdia.as_slice()])
+    let mut boxes = Boxes::new(alloc);
+    boxes.put(&TRACK_HEAD)?;
+    boxes.push(&[number])?;
+    boxes.close()?;
+    boxes.push(edts)?;
+    boxes.put(&MEDIA_HEAD)?;
+    boxes.push(handler)?;
+    boxes.put(&TABLES)?;
+    Ok(boxes.into_bytes())
 }
 
 /// The payload of a movie header with the timescale 1000.
@@ -46,17 +69,20 @@ const HEADER: &[u8] = b"\0\0\0\0\0\0\0\0\0\0\0\0\0\0\x03\xE8\0\0\0\0";
 
 /// A movie box with these tracks, and with these boxes in its movie extends box.
 fn movie(alloc: Global, header: &[u8], traks: &[u8], extends: &[u8]) -> Result<Vec<u8>, Fail> {
-    let mvhd = bytes_of_box(alloc, b"mvhd", &[header])?;
-    let mvex = bytes_of_box(alloc, b"mvex", &[extends])?;
-    bytes_of_box(alloc, b"moov", &[mvhd.as_slice(), traks, mvex.as_slice()])
+    let mut boxes = Boxes::new(alloc);
+    boxes.put(&[Part::Open(b"moov"), Part::Open(b"mvhd")])?;
+    boxes.push(header)?;
+    boxes.close()?;
+    boxes.push(traks)?;
+    boxes.open(b"mvex")?;
+    boxes.push(extends)?;
+    boxes.put(&[Part::Close, Part::Close])?;
+    Ok(boxes.into_bytes())
 }
 
-/// The defaults of a track.
-fn trex(alloc: Global, number: u8, duration: u8) -> Result<Vec<u8>, Fail> {
-    let fields = [
-        0, 0, 0, number, 0, 0, 0, 1, 0, 0, 0, duration, 0, 0, 0, 7, 0, 1, 0, 0,
-    ];
-    bytes_of_box(alloc, b"trex", &[&[0; 4], &fields])
+/// The fault of a movie box; `None` if it is read.
+fn fault_in(alloc: Global, moov: &[u8]) -> Option<InitFault> {
+    fault_of(read_init(alloc, moov))
 }
 
 fn fault_of(outcome: Result<Presentation, InitError>) -> Option<InitFault> {
@@ -160,20 +186,31 @@ const FAULTS: [(Change, Change, InitFault); 34] = [
     ((*b"elst", 25, &[2]), NONE, InitFault::EditList),
 ];
 
+/// The edit box of the first of two tracks.
+const EDITS: [Part<'static>; 5] = [
+    Part::Open(b"edts"),
+    Part::Open(b"elst"),
+    Part::Bytes(b"\0\0\0\0\0\0\0\x01\0\0\0\0\0\0\0\0\0\x01\0\0"),
+    Part::Close,
+    Part::Close,
+];
+
+/// The duration, and the defaults of track 1: five units, a size and flags.
+const DEFAULTS: [Part<'static>; 6] = [
+    Part::Open(b"mehd"),
+    Part::Bytes(&[0; 8]),
+    Part::Close,
+    Part::Open(b"trex"),
+    Part::Bytes(b"\0\0\0\0\0\0\0\x01\0\0\0\x01\0\0\0\x05\0\0\0\x07\0\x01\0\0"),
+    Part::Close,
+];
+
 /// A movie box of two tracks, the first with an edit list, and with a duration and defaults.
 fn two_tracks(alloc: Global) -> Result<Vec<u8>, Fail> {
-    let elst = bytes_of_box(
-        alloc,
-        b"elst",
-        &[&[0, 0, 0, 0, 0, 0, 0, 1], &[0; 8], &[0, 1, 0, 0]],
-    )?;
-    let edts = bytes_of_box(alloc, b"edts", &[elst.as_slice()])?;
+    let edts = made(alloc, &EDITS)?;
     let mut traks = track(alloc, 1, b"vide", edts.as_slice())?;
-    let second = track(alloc, 2, b"soun", &[])?;
-    traks.extend_from_slice(second.as_slice())?;
-    let mut extends = bytes_of_box(alloc, b"mehd", &[&[0; 8]])?;
-    let defaults = trex(alloc, 1, 5)?;
-    extends.extend_from_slice(defaults.as_slice())?;
+    traks.extend_from_slice(track(alloc, 2, b"soun", &[])?.as_slice())?;
+    let extends = made(alloc, &DEFAULTS)?;
     movie(alloc, HEADER, traks.as_slice(), extends.as_slice())
 }
 
@@ -193,8 +230,8 @@ fn expect_fault(
     let mut bytes = Vec::from_slice(rt.alloc(), good)?;
     change(&mut bytes, first)?;
     change(&mut bytes, second)?;
-    let found = fault_of(read_init(rt.alloc(), bytes.as_slice()));
-    assert_eq!(rt; found, Some(fault), "{first:?}");
+    let found = fault_in(rt.alloc(), bytes.as_slice());
+    assert!(rt; found == Some(fault), "{first:?}");
     Ok(())
 }
 
@@ -205,43 +242,62 @@ fn faults(rt: HostRuntime) -> Result<(), Fail> {
     for (first, second, fault) in &FAULTS {
         expect_fault(&rt, good.as_slice(), first, second, *fault)?;
     }
-    assert_eq!(rt;
-        fault_of(read_init(rt.alloc(), b"\0\0\0\x08moov")),
-        Some(InitFault::Missing(*b"mvhd"))
+    let empty = fault_in(rt.alloc(), b"\0\0\0\x08moov");
+    assert!(rt; empty == Some(InitFault::Missing(*b"mvhd")));
+    Ok(())
+}
+
+/// Versions and lengths of movie headers: one that ends within its timescale, behind it, within its duration or behind
+/// that; and the faults with the timescale 1 and with 0. A header that is too short is that first.
+const HEADERS: [(u8, usize, Option<InitFault>, Option<InitFault>); 9] = [
+    (0, 15, Some(InitFault::Size), Some(InitFault::Size)),
+    (0, 16, Some(InitFault::Size), Some(InitFault::Size)),
+    (0, 19, Some(InitFault::Size), Some(InitFault::Size)),
+    (0, 20, None, Some(InitFault::ZeroTimescale)),
+    (1, 16, Some(InitFault::Size), Some(InitFault::Size)),
+    (1, 23, Some(InitFault::Size), Some(InitFault::Size)),
+    (1, 24, Some(InitFault::Size), Some(InitFault::Size)),
+    (1, 31, Some(InitFault::Size), Some(InitFault::Size)),
+    (1, 32, None, Some(InitFault::ZeroTimescale)),
+];
+
+/// A movie header of a version and a length that has 0 in all other fields but the last byte of its timescale.
+fn header_of(alloc: Global, version: u8, len: usize, scale: u8) -> Result<Vec<u8>, Fail> {
+    let mut header = vec![in alloc; 0; len]?;
+    let place = if version == 1 { 23 } else { 15 };
+    for (at, byte) in header.iter_mut().enumerate() {
+        if at == 0 {
+            *byte = version;
+        } else if at == place {
+            *byte = scale;
+        }
+    }
+    Ok(header)
+}
+
+/// Asserts the fault of a movie box without tracks that has such a header.
+fn expect_header(
+    rt: &(impl Abort + AllocGlobal),
+    version: u8,
+    len: usize,
+    scale: u8,
+    want: Option<InitFault>,
+) -> Result<(), Fail> {
+    let header = header_of(rt.alloc(), version, len, scale)?;
+    let moov = movie(rt.alloc(), header.as_slice(), &[], &[])?;
+    let found = fault_in(rt.alloc(), moov.as_slice());
+    assert!(rt;
+        found == want,
+        "version {version}, {len} bytes, timescale {scale}"
     );
     Ok(())
 }
 
-/// A movie header that ends within its timescale, behind it, within its duration or behind that, with a timescale
-/// of 0 and of another number. A header that is too short is that first.
 #[test]
 fn short_movie_headers(rt: HostRuntime) -> Result<(), Fail> {
-    let alloc = rt.alloc();
-    let short = Some(InitFault::Size);
-    let zero = Some(InitFault::ZeroTimescale);
-    let table = [
-        (0, 15, short, short),
-        (0, 16, short, short),
-        (0, 19, short, short),
-        (0, 20, None, zero),
-        (1, 16, short, short),
-        (1, 23, short, short),
-        (1, 24, short, short),
-        (1, 31, short, short),
-        (1, 32, None, zero),
-    ];
-    for (version, len, with_scale, without) in table {
-        // The last byte of the timescale.
-        let place = if version == 1 { 23 } else { 15 };
-        for (scale, want) in [(1, with_scale), (0, without)] {
-            let mut header = Vec::from_slice(alloc, &[version])?;
-            for at in 1..len {
-                header.push(if at == place { scale } else { 0 })?;
-            }
-            let moov = movie(alloc, header.as_slice(), &[], &[])?;
-            let found = fault_of(read_init(alloc, moov.as_slice()));
-            assert_eq!(rt; found, want, "version {version}, {len} bytes, {scale}");
-        }
+    for (version, len, with_scale, without) in &HEADERS {
+        expect_header(&rt, *version, *len, 1, *with_scale)?;
+        expect_header(&rt, *version, *len, 0, *without)?;
     }
     Ok(())
 }
@@ -252,8 +308,14 @@ fn shifts(
     header: &[u8],
     edits: &[u8],
 ) -> Result<Result<(i64, i128), Option<InitFault>>, Fail> {
-    let elst = bytes_of_box(alloc, b"elst", &[edits])?;
-    let edts = bytes_of_box(alloc, b"edts", &[elst.as_slice()])?;
+    let parts = [
+        Part::Open(b"edts"),
+        Part::Open(b"elst"),
+        Part::Bytes(edits),
+        Part::Close,
+        Part::Close,
+    ];
+    let edts = made(alloc, &parts)?;
     let trak = track(alloc, 1, b"vide", edts.as_slice())?;
     let moov = movie(alloc, header, trak.as_slice(), &[])?;
     Ok(match read_init(alloc, moov.as_slice()) {
@@ -408,7 +470,7 @@ fn expect_shifts(
     let mut edits = edits_of(rt.alloc(), front, edit, count)?;
     edits.extend_from_slice(last)?;
     let got = shifts(rt.alloc(), header, edits.as_slice())?;
-    assert_eq!(rt; got, want.map_err(Some), "{front:?} {edit:?} {last:?}");
+    assert!(rt; got == want.map_err(Some), "{front:?} {edit:?} {last:?}");
     Ok(())
 }
 
@@ -428,30 +490,36 @@ fn view_of_track(track: &TrackInfo) -> Wanted {
     (track.id, track.kind, codec, track.scale, track.media_shift)
 }
 
+/// Movie boxes of packagers, and the tracks of each.
+const PACKAGERS: [(&[u8], &[Wanted]); 5] = [
+    (&ONE_VIDEO_TRACK, &[(1, Kind::Video, *b"avc1", 90000, 0)]),
+    (
+        &TWO_TRACKS,
+        &[
+            (1, Kind::Video, *b"avc1", 90000, 0),
+            (2, Kind::Audio, *b"mp4a", 48000, 0),
+        ],
+    ),
+    (&OPUS, &[(1, Kind::Audio, *b"Opus", 48000, 312)]),
+    (&AV1, &[(1, Kind::Video, *b"av01", 12800, 0)]),
+    (&REORDERED, &[(1, Kind::Video, *b"avc1", 12800, 1024)]),
+];
+
+/// Asserts the tracks of a presentation of the scale 1000 and an unknown duration.
+fn expect_tracks(rt: &impl Abort, presentation: &Presentation, want: &[Wanted]) {
+    assert!(rt; presentation.scale == 1000 && presentation.duration == Moment::Infinite);
+    let tracks = presentation.tracks.as_slice();
+    assert!(rt; tracks.len() == want.len());
+    for (track, wanted) in tracks.iter().zip(want.iter()) {
+        assert!(rt; view_of_track(track) == *wanted, "{wanted:?}");
+    }
+}
+
 #[test]
 fn segments_of_packagers(rt: HostRuntime) -> Result<(), Fail> {
-    let alloc = rt.alloc();
-    let table: [(&[u8], &[Wanted]); 5] = [
-        (&ONE_VIDEO_TRACK, &[(1, Kind::Video, *b"avc1", 90000, 0)]),
-        (
-            &TWO_TRACKS,
-            &[
-                (1, Kind::Video, *b"avc1", 90000, 0),
-                (2, Kind::Audio, *b"mp4a", 48000, 0),
-            ],
-        ),
-        (&OPUS, &[(1, Kind::Audio, *b"Opus", 48000, 312)]),
-        (&AV1, &[(1, Kind::Video, *b"av01", 12800, 0)]),
-        (&REORDERED, &[(1, Kind::Video, *b"avc1", 12800, 1024)]),
-    ];
-    for (moov, want) in table {
-        let presentation = read_init(alloc, moov).ok().ok_or("a presentation")?;
-        assert_eq!(rt; presentation.scale, 1000);
-        assert_eq!(rt; presentation.duration, Moment::Infinite);
-        assert_eq!(rt; presentation.tracks.as_slice().len(), want.len());
-        for (track, wanted) in presentation.tracks.as_slice().iter().zip(want.iter()) {
-            assert_eq!(rt; view_of_track(track), *wanted);
-        }
+    for (moov, want) in &PACKAGERS {
+        let presentation = read_init(rt.alloc(), moov).ok().ok_or("a presentation")?;
+        expect_tracks(&rt, &presentation, want);
     }
     Ok(())
 }
@@ -459,33 +527,40 @@ fn segments_of_packagers(rt: HostRuntime) -> Result<(), Fail> {
 /// A movie box with samples and no movie extends box.
 #[test]
 fn a_classic_movie(rt: HostRuntime) -> Result<(), Fail> {
-    let alloc = rt.alloc();
-    let mut classic = Vec::from_slice(alloc, &OPUS)?;
+    let mut classic = Vec::from_slice(rt.alloc(), &OPUS)?;
     overwrite(&mut classic, b"mvex", 4, b"free")?;
     overwrite(&mut classic, b"stts", 15, &[1])?;
-    let presentation = read_movie(alloc, classic.as_slice())
-        .ok()
-        .ok_or("a presentation")?;
-    let told_tracks = presentation.tracks.as_slice().first().map(view_of_track);
-    assert_eq!(rt; told_tracks, Some((1, Kind::Audio, *b"Opus", 48000, 312)));
-    assert_eq!(rt;
-        fault_of(read_init(alloc, classic.as_slice())),
-        Some(InitFault::NoMvex)
-    );
+    let presentation = read_movie(rt.alloc(), classic.as_slice()).ok();
+    let track = presentation.as_ref().and_then(first_track);
+    assert!(rt; track == Some((1, Kind::Audio, *b"Opus", 48000, 312)));
+    let fault = fault_in(rt.alloc(), classic.as_slice());
+    assert!(rt; fault == Some(InitFault::NoMvex));
     Ok(())
 }
 
-/// A movie box of 64 tracks of text, numbered from 1 on, and of these tracks, with two defaults of track 64.
-fn movie_of_texts(alloc: Global, more: &[u8]) -> Result<Vec<u8>, Fail> {
+fn first_track(presentation: &Presentation) -> Option<Wanted> {
+    presentation.tracks.as_slice().first().map(view_of_track)
+}
+
+/// Two defaults of track 64, of five units and of nine.
+const TWO_DEFAULTS: [Part<'static>; 6] = [
+    Part::Open(b"trex"),
+    Part::Bytes(b"\0\0\0\0\0\0\0\x40\0\0\0\x01\0\0\0\x05\0\0\0\x07\0\x01\0\0"),
+    Part::Close,
+    Part::Open(b"trex"),
+    Part::Bytes(b"\0\0\0\0\0\0\0\x40\0\0\0\x01\0\0\0\x09\0\0\0\x07\0\x01\0\0"),
+    Part::Close,
+];
+
+/// A movie box of so many tracks of text, numbered from 1 on, of which the 65th has the number 1 again; with two
+/// defaults of track 64.
+fn movie_of_texts(alloc: Global, count: u8) -> Result<Vec<u8>, Fail> {
     let mut traks = Vec::new(alloc);
-    for number in 1..=64 {
-        let trak = track(alloc, number, b"text", &[])?;
+    for i in 0..count {
+        let trak = track(alloc, i % 64 + 1, b"text", &[])?;
         traks.extend_from_slice(trak.as_slice())?;
     }
-    traks.extend_from_slice(more)?;
-    let mut extends = trex(alloc, 64, 5)?;
-    let second = trex(alloc, 64, 9)?;
-    extends.extend_from_slice(second.as_slice())?;
+    let extends = made(alloc, &TWO_DEFAULTS)?;
     movie(alloc, HEADER, traks.as_slice(), extends.as_slice())
 }
 
@@ -500,59 +575,76 @@ fn defaults(track: &TrackInfo) -> (u32, u32, u32) {
 
 #[test]
 fn many_tracks(rt: HostRuntime) -> Result<(), Fail> {
-    let moov = movie_of_texts(rt.alloc(), &[])?;
+    let moov = movie_of_texts(rt.alloc(), 64)?;
     let presentation = read_init(rt.alloc(), moov.as_slice())
         .ok()
         .ok_or("a presentation")?;
     let [.., before, last] = presentation.tracks.as_slice() else {
         return Err(Fail::new("tracks"));
     };
-    assert_eq!(rt; view_of_track(before), (63, Kind::Other, [0; 4], 1, 0));
-    assert_eq!(rt; defaults(before), (0, 0, 0));
-    assert_eq!(rt; defaults(last), (5, 7, 0x10000));
+    assert!(rt; view_of_track(before) == (63, Kind::Other, [0; 4], 1, 0));
+    assert!(rt; defaults(before) == (0, 0, 0));
+    assert!(rt; defaults(last) == (5, 7, 0x10000));
     Ok(())
 }
 
 #[test]
 fn too_many_tracks(rt: HostRuntime) -> Result<(), Fail> {
-    let more = track(rt.alloc(), 1, b"text", &[])?;
-    let moov = movie_of_texts(rt.alloc(), more.as_slice())?;
-    let found = fault_of(read_init(rt.alloc(), moov.as_slice()));
-    assert_eq!(rt; found, Some(InitFault::TooManyTracks));
+    let moov = movie_of_texts(rt.alloc(), 65)?;
+    let found = fault_in(rt.alloc(), moov.as_slice());
+    assert!(rt; found == Some(InitFault::TooManyTracks));
     Ok(())
+}
+
+const FIVE_SECONDS: &[u8] = b"\0\0\0\0\0\0\0\0\0\0\0\0\0\0\x03\xE8\0\0\x13\x88";
+
+const UNKNOWN: &[u8] = b"\0\0\0\0\0\0\0\0\0\0\0\0\0\0\x03\xE8\xFF\xFF\xFF\xFF";
+
+const LONG: &[u8] =
+    b"\x01\0\0\0\0\0\0\0\0\0\0\0\0\0\0\0\0\0\0\0\0\0\x03\xE8\0\0\0\0\xFF\xFF\xFF\xFF";
+
+const LONG_UNKNOWN: &[u8] =
+    b"\x01\0\0\0\0\0\0\0\0\0\0\0\0\0\0\0\0\0\0\0\0\0\x03\xE8\xFF\xFF\xFF\xFF\xFF\xFF\xFF\xFF";
+
+/// The payloads of a box of a duration: that of 0, and one of two seconds.
+const ZERO_SECONDS: &[u8] = b"\0\0\0\0\0\0\0\0";
+
+const TWO_SECONDS: &[u8] = b"\x01\0\0\0\0\0\0\0\0\0\x07\xD0";
+
+/// A movie header, a box of a duration, and the duration in ticks, if it is known.
+const DURATIONS: [(&[u8], &[u8], Option<i128>); 7] = [
+    (HEADER, ZERO_SECONDS, None),
+    (FIVE_SECONDS, ZERO_SECONDS, Some(705_600_000_000)),
+    (FIVE_SECONDS, TWO_SECONDS, Some(282_240_000_000)),
+    (UNKNOWN, ZERO_SECONDS, None),
+    (UNKNOWN, TWO_SECONDS, Some(282_240_000_000)),
+    (LONG, ZERO_SECONDS, Some(606105784670400000)),
+    (LONG_UNKNOWN, ZERO_SECONDS, None),
+];
+
+/// The duration of a movie without tracks.
+fn duration_of(alloc: Global, header: &[u8], duration: &[u8]) -> Result<Moment, Fail> {
+    let parts = [Part::Open(b"mehd"), Part::Bytes(duration), Part::Close];
+    let mehd = made(alloc, &parts)?;
+    let moov = movie(alloc, header, &[], mehd.as_slice())?;
+    let presentation = read_init(alloc, moov.as_slice())
+        .ok()
+        .ok_or("a presentation")?;
+    Ok(presentation.duration)
+}
+
+fn moment(ticks: Option<i128>) -> Result<Moment, Fail> {
+    match ticks {
+        Some(t) => Ok(Moment::At(Ticks::new(t).ok_or("in range")?)),
+        None => Ok(Moment::Infinite),
+    }
 }
 
 #[test]
 fn durations(rt: HostRuntime) -> Result<(), Fail> {
-    let alloc = rt.alloc();
-    let five: &[u8] = b"\0\0\0\0\0\0\0\0\0\0\0\0\0\0\x03\xE8\0\0\x13\x88";
-    let unknown: &[u8] = b"\0\0\0\0\0\0\0\0\0\0\0\0\0\0\x03\xE8\xFF\xFF\xFF\xFF";
-    let long: &[u8] =
-        b"\x01\0\0\0\0\0\0\0\0\0\0\0\0\0\0\0\0\0\0\0\0\0\x03\xE8\0\0\0\0\xFF\xFF\xFF\xFF";
-    let long_unknown: &[u8] =
-        b"\x01\0\0\0\0\0\0\0\0\0\0\0\0\0\0\0\0\0\0\0\0\0\x03\xE8\xFF\xFF\xFF\xFF\xFF\xFF\xFF\xFF";
-    let none: &[u8] = b"\0\0\0\0\0\0\0\0";
-    let two: &[u8] = b"\x01\0\0\0\0\0\0\0\0\0\x07\xD0";
-    let table = [
-        (HEADER, none, None),
-        (five, none, Some(705_600_000_000)),
-        (five, two, Some(282_240_000_000)),
-        (unknown, none, None),
-        (unknown, two, Some(282_240_000_000)),
-        (long, none, Some(606105784670400000)),
-        (long_unknown, none, None),
-    ];
-    for (header, duration, want) in table {
-        let mehd = bytes_of_box(alloc, b"mehd", &[duration])?;
-        let moov = movie(alloc, header, &[], mehd.as_slice())?;
-        let presentation = read_init(alloc, moov.as_slice())
-            .ok()
-            .ok_or("a presentation")?;
-        let end = match want {
-            Some(end) => Moment::At(Ticks::new(end).ok_or("in range")?),
-            None => Moment::Infinite,
-        };
-        assert_eq!(rt; presentation.duration, end, "{header:?} {duration:?}");
+    for (header, duration, want) in &DURATIONS {
+        let found = duration_of(rt.alloc(), header, duration)?;
+        assert!(rt; found == moment(*want)?, "{header:?} {duration:?}");
     }
     Ok(())
 }

@@ -70,8 +70,8 @@ const TEXTS: [(&str, TypeAnswer); 42] = [
 
 #[test]
 fn types(rt: HostRuntime) {
-    for (text, answer) in TEXTS {
-        assert_eq!(rt; read_type(text), answer, "{text}");
+    for (text, answer) in &TEXTS {
+        assert!(rt; read_type(text) == *answer, "{text}");
     }
 }
 
@@ -135,20 +135,23 @@ const QUOTED: [(&str, TypeAnswer); 24] = [
 
 #[test]
 fn types_with_quotes(rt: HostRuntime) {
-    for (text, answer) in QUOTED {
-        assert_eq!(rt; read_type(text), answer, "{text}");
+    for (text, answer) in &QUOTED {
+        assert!(rt; read_type(text) == *answer, "{text}");
     }
 }
 
+/// Types of sample entries, and whether they are known.
+const SAMPLE_ENTRIES: [([u8; 4], bool); 5] = [
+    (*b"avc1", true),
+    (*b"Opus", true),
+    (*b"opus", false),
+    (*b"flac", false),
+    (*b"encv", false),
+];
+
 #[test]
 fn sample_entries(rt: HostRuntime) {
-    for (codec, known) in [
-        (*b"avc1", true),
-        (*b"Opus", true),
-        (*b"opus", false),
-        (*b"flac", false),
-        (*b"encv", false),
-    ] {
-        assert_eq!(rt; codec_known(codec), known);
+    for (codec, known) in &SAMPLE_ENTRIES {
+        assert!(rt; codec_known(*codec) == *known, "{codec:?}");
     }
 }

@@ -184,13 +184,13 @@ fn frames_in_another_order(rt: HostRuntime) -> Result<(), Fail> {
     ];
     check(&rt, alloc, &with, REORDERED, &wanted)?;
     let wanted = [(1, 42336000000, 42336000000, unit, true, 112, 116)];
-    check(&rt, alloc, &with, AT_300, &wanted)?;
+    check(&rt, alloc, &with, ONE_LATER_FRAME, &wanted)?;
     let second = 141120000000;
     let wanted = [
         (1, 564480000000, 564480000000, second, true, 128, 132),
         (1, 705600000000, 705600000000, second, false, 132, 136),
     ];
-    check(&rt, alloc, &with, AT_4000, &wanted)
+    check(&rt, alloc, &with, TWO_LONG_FRAMES, &wanted)
 }
 
 #[test]
@@ -204,7 +204,7 @@ fn frames_of_audio_and_of_two_tracks(rt: HostRuntime) -> Result<(), Fail> {
     ];
     check(&rt, alloc, &with, TWO_SYNC_FRAMES, &wanted)?;
     let wanted = [(1, 1505280000, 1505280000, frame, true, 112, 116)];
-    check(&rt, alloc, &with, AT_512, &wanted)?;
+    check(&rt, alloc, &with, ONE_AUDIO_FRAME, &wanted)?;
     let video = track(1, Kind::Video, 90000, 0);
     let with = presentation(alloc, video, track(2, Kind::Audio, 48000, 0))?;
     let wanted = [

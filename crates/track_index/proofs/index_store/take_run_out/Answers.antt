@@ -2,7 +2,7 @@ use Rattle.std.proofs.Common.{◌≡◌, ◌∙◌, ◌+◌, ◌++◌, List, [],
 use Rattle.mse_base.specs.Rows.{row_items}
 use Rattle.block_list.specs.BlockPlaces.{rank}
 use Rattle.track_store.specs.Frames.{intervals, IsTimed}
-use Rattle.track_store.proofs.Listing.{are_ranges}
+use Rattle.track_store.proofs.PlainStore.{are_ranges}
 use Rattle.track_index.specs.declared.entry.OrderEntry.{OrderEntry}
 use Rattle.track_index.specs.Order.{presentation_order, span_of}
 use Rattle.track_index.specs.Repair.{AreBetween}

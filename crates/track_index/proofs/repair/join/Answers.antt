@@ -1,6 +1,6 @@
 use Rattle.std.proofs.Common.{◌∙◌, ap}
 use Rattle.mse_base.specs.Bridging.{is_near_any}
-use Rattle.mse_base.proofs.Merging.{times_join_in}
+use Rattle.mse_base.proofs.JoinedSpans.{times_join_in}
 use Rattle.track_index.proofs.repair.join.Goals as goal
 
 pub returns-clause-ticks : goal.returns-clause-ticks

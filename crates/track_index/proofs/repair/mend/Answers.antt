@@ -1,7 +1,7 @@
 use Rattle.std.proofs.Common.{◌≡◌, ◌∙◌, ◌<ℤ◌, ◌≤ℤ◌, ◌+ℤ◌, ℤ, map, ap, sym, subst, arith}
 use Rattle.std.proofs.lemmas.Int.{ints}
 use Rattle.mse_base.specs.Bridging.{ranges_without, IsRanges}
-use Rattle.mse_base.proofs.Merging.{ranges_bridged}
+use Rattle.mse_base.proofs.JoinedSpans.{ranges_bridged}
 use Rattle.mse_base.specs.Rows.{row_items}
 use Rattle.track_index.specs.declared.key.Key.{Key}
 use Rattle.track_index.specs.Order.{span_of}

@@ -1,7 +1,7 @@
 use Rattle.std.proofs.Common.{◌∙◌, ◌<◌, ◌+ℤ◌, ◌≤◌, ℕ, [], length, take, map, ap, sym, subst, arith}
 use Rattle.mse_base.specs.Time.{IsTick}
 use Rattle.mse_base.specs.Bridging.{bridged_ranges, ranges_with, IsRanges}
-use Rattle.mse_base.proofs.Merging.{ranges_bridged}
+use Rattle.mse_base.proofs.JoinedSpans.{ranges_bridged}
 use Rattle.mse_base.specs.Rows.{row_items}
 use Rattle.block_list.specs.BlockPlaces.{rank}
 use Rattle.track_index.specs.declared.entry.OrderEntry.{OrderEntry}

@@ -3,7 +3,7 @@ use Rattle.std.specs.List.{AllByRecursion}
 use Rattle.std.proofs.lemmas.List.Sums.{sum_by_push}
 use Rattle.track_store.specs.declared.store.Stored.{Stored}
 use Rattle.track_store.specs.Frames.{bytes_of}
-use Rattle.track_store.proofs.Clearing.{each-push}
+use Rattle.track_store.proofs.ClearedLists.{each-push}
 use Rattle.frame_tests.proofs.tests.overlaps.store_of.Goals as goal
 
 -- serials below a number are below a greater one

@@ -2,7 +2,7 @@ use Rattle.std.proofs.Common.{◌∙◌, ◌+◌, ◌∷◌, [], ◌≤◌, leng
 use Rattle.mse_base.specs.declared.span.Span.{Span}
 use Rattle.mse_base.specs.Bridging.{ranges_with}
 use Rattle.mse_base.specs.Rows.{row_items}
-use Rattle.track_store.proofs.Listing.{few_ranges, are_ranges}
+use Rattle.track_store.proofs.PlainStore.{few_ranges, are_ranges}
 use Rattle.track_index.specs.declared.entry.OrderEntry.{OrderEntry}
 use Rattle.track_index.specs.Order.{entries_with, span_of}
 use Rattle.track_index.proofs.Keys.{keyed_of}

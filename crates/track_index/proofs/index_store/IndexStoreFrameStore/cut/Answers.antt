@@ -4,8 +4,8 @@ use Rattle.mse_base.specs.Time.{IsTick}
 use Rattle.mse_base.specs.declared.span.Span.{Span}
 use Rattle.mse_base.specs.Rows.{row_items}
 use Rattle.track_store.specs.Frames.{frames_with_dur, IsTimed}
-use Rattle.track_store.proofs.Clearing.{kept-shortened}
-use Rattle.track_store.proofs.Listing.{are_ranges}
+use Rattle.track_store.proofs.ClearedLists.{kept-shortened}
+use Rattle.track_store.proofs.PlainStore.{are_ranges}
 use Rattle.track_index.specs.declared.entry.OrderEntry.{OrderEntry}
 use Rattle.track_index.specs.Order.{with_entry_dur, span_of}
 use Rattle.track_index.proofs.EntryOrder.{length_ordered}

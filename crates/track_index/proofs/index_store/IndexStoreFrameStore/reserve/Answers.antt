@@ -1,6 +1,6 @@
 use Rattle.std.proofs.Common.{ap, length, arith}
 use Rattle.mse_base.specs.Rows.{row_items}
-use Rattle.track_store.proofs.Listing.{few_ranges}
+use Rattle.track_store.proofs.PlainStore.{few_ranges}
 use Rattle.track_index.proofs.index_store.IndexStoreFrameStore.reserve.Goals as goal
 
 pub overflow_sub-surplus : goal.overflow_sub-surplus
