@@ -10,7 +10,7 @@ use Rattle.track_store.specs.declared.store.Stored.{Stored}
 use Rattle.track_store.specs.Frames.{IsAscending, has_serial, overlapped}
 use Rattle.track_store.specs.Sound.{IsSound}
 use Rattle.track_store.specs.State.{TrackState}
-use Rattle.track_store.proofs.Clearing.{each_at}
+use Rattle.track_store.proofs.ClearedLists.{each_at}
 use Rattle.decoder_feed.specs.declared.steps.FeedNext.{FeedNext}
 use Rattle.decoder_feed.specs.declared.steps.FeedNext.TheVariants.{Frame, Wait}
 use Rattle.decoder_feed.specs.Feed.{IsInOrder, group_serial, group_up_to, feed_of}

@@ -9,8 +9,8 @@ use Rattle.std.proofs.lemmas.Option.{slice_get_within, slice_get_cases}
 use Rattle.track_store.specs.declared.store.Stored.{Stored}
 use Rattle.track_store.specs.Frames.{IsAscending, is_in_frame, overlapped, frame_at, group_start_of, last_place, last_place_after}
 use Rattle.track_store.specs.Sound.{IsChained, IsSuccessor}
-use Rattle.track_store.proofs.Clearing.{each_at}
-use Rattle.track_store.proofs.Overlapping.{fold-each}
+use Rattle.track_store.proofs.ClearedLists.{each_at}
+use Rattle.track_store.proofs.LastOverlap.{fold-each}
 use Rattle.decoder_feed.specs.Feed.{greater_serial, greatest_serial, group_serial, frames_from, group_up_to, feed_of, ArePlaces, IsInOrder, IsLastOf, IsGroupUpTo}
 
 and_false : (b : Bool) → (b && false) ≡ false

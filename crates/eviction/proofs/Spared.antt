@@ -13,7 +13,7 @@ use Rattle.track_store.specs.declared.store.Stored.{Stored}
 use Rattle.track_store.specs.Frames.{frames_without, frames_left, is_between, starts, sync_times_from}
 use Rattle.track_store.specs.Kept.{bytes_in}
 use Rattle.track_store.specs.State.{TrackState}
-use Rattle.track_store.proofs.Clearing.{is_frame_gone, cleared-goes, cleared-stays, cleared-cleared, cleared-nothing}
+use Rattle.track_store.proofs.ClearedLists.{is_frame_gone, cleared-goes, cleared-stays, cleared-cleared, cleared-nothing}
 use Rattle.range_removal.specs.Removal.{remove_end, track_after_removal, tracks_after_removal}
 use Rattle.eviction.specs.Evicting.{RemovalRange, has_time, frames_of, lead_of, sync_times, removal_ranges, is_up_to_position, is_after_position, ranges_in_order, has_room, tracks_while_full, tracks_after_eviction}
 use Rattle.eviction.specs.Times.{IsAmong}

@@ -200,7 +200,7 @@ fn is_quiet(source: &MediaSource, reply: &Reply) -> bool
 /// Does what the reply of a step of the work of the buffer of a number brings about at the source, at
 /// the element and in the queue, and ends the step. Where the element gets its metadata, `bounds` are
 /// those of what it has buffered then.
-pub(crate) fn finish<S: FrameStore>(
+pub(crate) fn apply_work_reply<S: FrameStore>(
     source: &mut MediaSource,
     buffers: &SourceBuffers<S>,
     element: &mut Element,
@@ -217,14 +217,14 @@ pub(crate) fn finish<S: FrameStore>(
     if is_quiet(source, reply) {
         settle(source, buffers, element);
     } else {
-        finish_with_events(source, buffers, element, k, reply, bounds);
+        apply_work_reply_with_events(source, buffers, element, k, reply, bounds);
     }
 }
 
 /// The same, where something comes of the reply.
 #[cold]
 #[inline(never)]
-fn finish_with_events<S: FrameStore>(
+fn apply_work_reply_with_events<S: FrameStore>(
     source: &mut MediaSource,
     buffers: &SourceBuffers<S>,
     element: &mut Element,

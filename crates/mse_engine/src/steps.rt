@@ -7,7 +7,7 @@ ghost use Rattle.mse_engine.specs.Work.{after_element_turn, after_work};
 ghost use Rattle.mse_engine.specs.Standing.{IsFewerWork, IsSteady, IsWork, Stands, kept_engine, no_bounds};
 
 use crate::engine::Worked;
-use crate::finish::{PLACES, finish, settle};
+use crate::finish::{PLACES, apply_work_reply, settle};
 use crate::media_source::{MediaSource, around};
 use crate::scenes::{self, LoadBounds};
 use buffer_state::{Reply, Turned};
@@ -55,7 +55,7 @@ pub(crate) fn work_on<S: FrameStore>(
     match buffers.turn(k, &around)? {
         Turned::Did(reply) => {
             drop_stale_bounds(source, k, &reply, &mut bounds);
-            finish(source, buffers, element, k, &reply, &bounds);
+            apply_work_reply(source, buffers, element, k, &reply, &bounds);
             Ok(Worked::Did)
         }
         Turned::Idle => Ok(Worked::Idle),

@@ -10,9 +10,9 @@ use Rattle.track_store.specs.declared.store.Stored.{Stored}
 use Rattle.track_store.specs.Frames.{frames_with_dur, with_dur, has_serial, is_in_frame, overlapped, bytes_of, IsAscending}
 use Rattle.track_store.specs.State.{TrackState}
 use Rattle.track_store.specs.Sound.{IsSound, IsSuccessor, IsChained, last_serial, IsNotNegative, AreTogether}
-use Rattle.track_store.proofs.Clearing.{each-cleared, ascending-cleared, used-cleared, pick-each, ascending-shortened, used-shortened}
+use Rattle.track_store.proofs.ClearedLists.{each-cleared, ascending-cleared, used-cleared, pick-each, ascending-shortened, used-shortened}
 use Rattle.track_store.proofs.Soundness.{chained-cleared, chained-shortened, last-cleared}
-use Rattle.track_store.proofs.Overlapping.{overlapped-covers, fold-each}
+use Rattle.track_store.proofs.LastOverlap.{overlapped-covers, fold-each}
 use Rattle.overlap_rules.specs.declared.room.OverlapRule.{OverlapRule}
 use Rattle.overlap_rules.specs.declared.room.OverlapRule.TheVariants.{Remove, Shorten, Keep}
 use Rattle.overlap_rules.specs.Overlap.{rule_for, overlapped_after, removal_start, is_removed_from, is_removed, frames_left_by_rule, frames_left_by_overlap, track_with_room}

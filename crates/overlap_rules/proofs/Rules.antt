@@ -9,7 +9,7 @@ use Rattle.mse_base.specs.declared.track.Kind.TheVariants.{Video, Audio, Other}
 use Rattle.mse_base.specs.declared.ticks.Moment.TheVariants.{At}
 use Rattle.track_store.specs.declared.store.Stored.{Stored}
 use Rattle.track_store.specs.Frames.{frames_without, is_in_frame, has_serial, is_between}
-use Rattle.track_store.proofs.Clearing.{cleared-cleared, cleared-same}
+use Rattle.track_store.proofs.ClearedLists.{cleared-cleared, cleared-same}
 use Rattle.overlap_rules.specs.Overlap.{rule_for, frames_left_by_rule, frames_left_by_overlap, is_removed_from, is_removed, overlapped_after, track_with_room}
 use Rattle.overlap_rules.specs.Steps.{IsApplicable, frames_after_rule, frames_after_overlap, track_after_overlap, track_without_older}
 use Rattle.track_store.specs.State.{TrackState}

@@ -7,7 +7,7 @@ use Rattle.std.specs.List.{AllByRecursion}
 use Rattle.track_store.specs.declared.store.Stored.{Stored}
 use Rattle.track_store.specs.Frames.{frames_left, IsAscending}
 use Rattle.track_store.specs.Sound.{last_serial}
-use Rattle.track_store.proofs.Clearing.{is_frame_gone, cleared-goes, cleared-stays}
+use Rattle.track_store.proofs.ClearedLists.{is_frame_gone, cleared-goes, cleared-stays}
 use Rattle.range_removal.specs.Removal.{is_last_removed_after}
 
 -- ---- where the last frame stays, it is the last that stays

@@ -5,7 +5,7 @@ use Rattle.std.proofs.lemmas.List.Sums.{sum_by_push}
 use Rattle.track_store.specs.declared.store.Stored.{Stored}
 use Rattle.track_store.specs.Frames.{IsAscending, bytes_of}
 use Rattle.track_store.specs.Sound.{HasPredecessor}
-use Rattle.track_store.proofs.Clearing.{each-push, ascending_push}
+use Rattle.track_store.proofs.ClearedLists.{each-push, ascending_push}
 
 -- n frames of four bytes with the serials from 0 on
 pub record IsFixture (n : ℕ) (fs : List Stored) : Type 0 where

@@ -10,7 +10,7 @@ use Rattle.track_store.specs.Frames.{IsAscending, frames_without, frames_left, b
 use Rattle.track_store.specs.Kept.{bytes_in, IsCountable, AreSoundAndCountable, AreEndedBy, AreStillSound}
 use Rattle.track_store.specs.Sound.{IsSound, IsSuccessor, AreTogether, last_serial}
 use Rattle.track_store.specs.State.{TrackState, unset_marks}
-use Rattle.track_store.proofs.Clearing.{is_frame_gone, each-cleared, ascending-cleared, used-cleared}
+use Rattle.track_store.proofs.ClearedLists.{is_frame_gone, each-cleared, ascending-cleared, used-cleared}
 use Rattle.track_store.proofs.Soundness.{chained-cleared}
 use Rattle.track_store.proofs.StillSound.{still_map}
 use Rattle.track_store.specs.Frames.{is_between}

@@ -6,7 +6,7 @@ use Rattle.std.specs.Option.{IfSome, option_flatten}
 use Rattle.mse_base.specs.declared.span.Span.{Span}
 use Rattle.mse_base.specs.Moments.{greatest}
 use Rattle.mse_base.specs.Spans.{reaches, IsNormalized}
-use Rattle.mse_base.proofs.Meeting.{all_normalized, covers-all}
+use Rattle.mse_base.proofs.SharedTicks.{all_normalized, covers-all}
 use Rattle.track_buffers.specs.Media.{Media}
 use Rattle.track_buffers.specs.Buffered.{last_ends, with_common_end, with_end}
 use Rattle.track_buffers.proofs.SharedRanges.{buffered_is, grown_all}

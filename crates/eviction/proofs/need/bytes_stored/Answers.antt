@@ -2,7 +2,7 @@ use Rattle.std.proofs.Common.{◌<◌, length, arith}
 use Rattle.std.proofs.lemmas.List.{length-map}
 use Rattle.track_store.specs.Frames.{bytes_of}
 use Rattle.track_store.specs.State.{TrackState, state_of, states_of}
-use Rattle.track_store.proofs.Counting.{added_more}
+use Rattle.track_store.proofs.ByteCounts.{added_more}
 use Rattle.eviction.proofs.need.bytes_stored.Goals as goal
 
 pub loop-i-preserved : goal.loop-i-preserved

@@ -3,7 +3,7 @@ use Rattle.track_store.specs.declared.store.Stored.{Stored}
 use Rattle.track_store.specs.State.{state_of}
 use Rattle.track_store.specs.Frames.{frames_without}
 use Rattle.overlap_rules.specs.Overlap.{is_removed_from}
-use Rattle.track_store.proofs.Clearing.{cleared-nothing}
+use Rattle.track_store.proofs.ClearedLists.{cleared-nothing}
 use Rattle.overlap_rules.proofs.room.remove_existing.Goals as goal
 
 pub returns-in-Some-clause-state : goal.returns-in-Some-clause-state

@@ -1,6 +1,6 @@
 use Rattle.std.proofs.Common.{◌≡◌, ◌∙◌, ap, sym, slice_get, Some, option_copied}
 use Rattle.track_store.specs.Frames.{overlapped}
-use Rattle.track_store.proofs.Overlapping.{overlapped-covers}
+use Rattle.track_store.proofs.LastOverlap.{overlapped-covers}
 use Rattle.overlap_rules.proofs.Rules.{applicable}
 use Rattle.overlap_rules.proofs.room.resolve_overlap.Goals as goal
 

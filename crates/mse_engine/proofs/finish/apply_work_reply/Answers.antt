@@ -1,6 +1,6 @@
 use Rattle.std.proofs.Common.{◌∙◌, sym}
 use Rattle.mse_engine.proofs.Quiet.{quiet_element, quiet_source}
-use Rattle.mse_engine.proofs.finish.finish.Goals as goal
+use Rattle.mse_engine.proofs.finish.apply_work_reply.Goals as goal
 
 pub returns-then-is_quiet : goal.returns-then-is_quiet
 returns-then-is_quiet g c =
