@@ -1,5 +1,5 @@
 #!/usr/bin/env python3
-"""Writes the files that cases/*.toml name, and those that truncated.py cuts beside files of examples/.
+"""Writes the files that cases/*.toml name, and those that truncated.py cuts beside those of crates/case_runs/data.
 
     case_files.py FOLDER
 

@@ -7,9 +7,9 @@
     make.py tracks TRACKS COUNT FILE  COUNT samples of 16 bytes, of each track in turn a hundred
     make.py turns TRACKS COUNT FILE   the same, of each track in turn one
     make.py store CASE COUNT FILE     COUNT samples that come as CASE says: twice, sound-twice, backwards, gaps-filled,
-                                      gaps-backwards, random
+                                      gaps-backwards, random, anywhere, anywhere-twice
 
-The initialization segment is that of examples/plain.mp4: one video track, number 1, 90000 units a second; where there are
+The initialization segment is that of crates/case_runs/data/plain.mp4: one video track, number 1, 90000 units a second; where there are
 more tracks, they are like it. A media
 segment, or a chunk of a classic file, has at most 100 samples of 3000 units; each tenth sample is a random access point.
 """
@@ -30,28 +30,28 @@ def box(kind, payload):
     return struct.pack(">I4s", 8 + len(payload), kind) + payload
 
 
-def moof(number, start, sizes, shown, sync):
+def moof(number, start, sizes, shown, sync, units=UNITS):
     def with_offset(offset):
         run = struct.pack(">IIi", 0x01000F01, len(sizes), offset)
         for i, size in enumerate(sizes):
             at = start + i
             flags = 0x02000000 if sync(at) else 0x01010000
-            run += struct.pack(">IIIi", UNITS, size, flags, (shown(at) - at) * UNITS)
+            run += struct.pack(">IIIi", units, size, flags, round((shown(at) - at) * units))
         traf = box(b"tfhd", struct.pack(">II", 0x00020000, 1))
-        traf += box(b"tfdt", struct.pack(">IQ", 0x01000000, start * UNITS))
+        traf += box(b"tfdt", struct.pack(">IQ", 0x01000000, start * units))
         traf += box(b"trun", run)
         return box(b"moof", box(b"mfhd", struct.pack(">II", 0, number)) + box(b"traf", traf))
 
     return with_offset(len(with_offset(0)) + 8)
 
 
-def segment(start, sizes, shown=lambda i: i, sync=lambda i: i % 10 == 0):
-    return moof(1, start, sizes, shown, sync) + box(b"mdat", b"\x55" * sum(sizes))
+def segment(start, sizes, shown=lambda i: i, sync=lambda i: i % 10 == 0, units=UNITS):
+    return moof(1, start, sizes, shown, sync, units) + box(b"mdat", b"\x55" * sum(sizes))
 
 
 def write(file, segments):
     here = os.path.dirname(os.path.abspath(__file__))
-    with open(os.path.join(here, "..", "examples", "plain.mp4"), "rb") as plain:
+    with open(os.path.join(here, "..", "crates", "case_runs", "data", "plain.mp4"), "rb") as plain:
         init = plain.read()[:595]
     with open(file, "wb") as out:
         out.write(init)
@@ -119,7 +119,19 @@ def store(case, count):
     if case == "random":
         places = random.Random(1)
         return parts(count, 100, lambda i: 8, lambda i: places.randrange(count), every)
+    if case in ("anywhere", "anywhere-twice"):
+        return anywhere(count, case)
     sys.exit(f"no case {case}")
+
+
+# samples of 10 units at any unit of the time that all take: each a random access point; or each tenth, and all twice
+def anywhere(count, case):
+    places = random.Random(1)
+    sync = every if case == "anywhere" else lambda i: i % 10 == 0
+    for _ in range(1 if case == "anywhere" else 2):
+        for start in range(0, count, 100):
+            sizes = [8] * min(100, count - start)
+            yield segment(start, sizes, lambda i: i + places.randrange(10 * count) / 10, sync, 10)
 
 
 # so many tracks, of each of which a movie fragment has so many samples

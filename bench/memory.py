@@ -40,7 +40,7 @@ def main():
 
 def full(file, quota):
     """Frames of a byte less than the quota, and all but the last byte of a segment."""
-    with open(os.path.join(HERE, "..", "examples", "plain.mp4"), "rb") as plain, open(file, "wb") as out:
+    with open(os.path.join(HERE, "..", "crates", "case_runs", "data", "plain.mp4"), "rb") as plain, open(file, "wb") as out:
         out.write(plain.read()[:595])
         sizes = [FRAME] * (quota // FRAME - 1) + [FRAME - 1]
         for at in range(0, len(sizes), 100):

@@ -16,6 +16,7 @@ does not find, and ends with 1 if there is one.
 - All words in backticks, also these: `name` and `Owner::name` stand in some file of code (crates/*/src, specs, proofs) or
   are the name of a crate or of a file; `name` of `crate` stands in that crate; `name` (`A.antt`) stands in a file of
   that name, `name` (`crate`, `A.antt`) in that file of the crate; and `A.antt`, `specs/A.antt` is a file.
+- The code that docs/LIBRARY.md quotes is the file of the gate's tests that it names first, word for word.
 """
 import glob
 import os
@@ -28,7 +29,7 @@ PROSE = ["docs/ARCHITECTURE.md", "docs/READING.md", "docs/NOTES.md", "docs/LIBRA
 # boxes of ISO/IEC 14496-12 of which only documents speak
 BOXES = {"enca"}
 WORD = re.compile(r"`([A-Za-z_]\w*(?:::\w+)*)`")
-FUNCTION = re.compile(r"^( *)(?:pub(?:\([^)]*\))? )?(?:const )?(?:unsafe )?fn (\w+)", re.M)
+FUNCTION = re.compile(r"^( *)(?:pub(?:\([^)]*\))? )?(?:const )?(?:unsafe )?(?:extern \"C\" )?fn (\w+)", re.M)
 OWNER = re.compile(r"^(?:pub )?(?:unsafe )?(?:impl(?:<[^{]*?>)? (?:([\w:]+)(?:<[^{]*?>)? for )?([\w:]+)|trait (\w+))", re.M)
 ITEM = re.compile(r"^ *(?:pub(?:\([^)]*\))? )?(?:struct|enum|trait|const|type|mod) (\w+)", re.M)
 LABEL = re.compile(r"\bensures\*? (\w+) *\{")
@@ -193,6 +194,14 @@ class Checker:
             if not any(path.endswith("/" + file) for path in self.paths):
                 self.miss(place, f"no file {file}")
 
+    def quoted(self, name):
+        """The code that a page quotes whole, beside the file that it names first."""
+        text = read(f"{self.top}/{name}")
+        code = re.search(r"^```rust\n(.*?)^```$", text, re.M | re.S)
+        file = re.search(r"`(crates/[\w/]+\.rt)`", text)
+        if not code or not file or code.group(1) != read(f"{self.top}/{file.group(1)}"):
+            self.miss(name, f"the code is not that of {file.group(1) if file else 'any file'}")
+
     def stands(self, name):
         return name in self.words or name in self.crates or name in self.stems or name in BOXES
 
@@ -204,6 +213,7 @@ class Checker:
         self.readme(read(f"{self.top}/README.md"))
         for name in PROSE:
             self.lines(name)
+        self.quoted("docs/LIBRARY.md")
         for line in dict.fromkeys(self.missing):
             print(line)
         return 1 if self.missing else 0

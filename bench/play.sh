@@ -11,7 +11,7 @@ here=$(cd "$(dirname "$0")" && pwd)
 program=$(realpath "${1:-$here/../crates/mseplay/out/mseplay}")
 work=$(mktemp -d)
 trap 'rm -rf "$work"' EXIT
-cp "$here/../examples/plain.mp4" "$work"
+cp "$here/../crates/case_runs/data/plain.mp4" "$work"
 cd "$work"
 
 python3 - "$program" <<'END'

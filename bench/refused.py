@@ -23,7 +23,7 @@ import case_files
 
 HERE = os.path.dirname(os.path.abspath(__file__))
 CRATES = os.path.join(HERE, "..", "crates")
-EXAMPLES = os.path.join(HERE, "..", "examples")
+EXAMPLES = os.path.join(HERE, "..", "crates", "case_runs", "data")
 CASES = os.path.join(HERE, "cases")
 WORDS, MEMORY = 1, 5
 RUNS = [

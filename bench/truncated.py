@@ -10,7 +10,7 @@ standards (ISO/IEC 14496-12, ISO/IEC 13818-7, the byte stream formats of Media S
 the program. It knows just what the files below need: samples that come in order and replace none. ADTS frames are appended
 by a script.
 
---store runs no program and writes the blocks of some of these files as the tables of a test of the gate.
+--store runs no program and writes the blocks of some of these files as tables of the cases.
 """
 import os
 import re
@@ -24,8 +24,8 @@ from concurrent.futures import ThreadPoolExecutor
 from case_files import case_files
 
 HERE = os.path.dirname(os.path.abspath(__file__))
-EXAMPLES = os.path.join(HERE, "..", "examples")
-TABLES = os.path.join(HERE, "..", "crates", "command_tests", "src", "tests", "fronts", "tables.rt")
+EXAMPLES = os.path.join(HERE, "..", "crates", "case_runs", "data")
+TABLES = os.path.join(EXAMPLES, "fronts")
 SMALL = ["two-tracks.mp4", "tagged.aac", "gap.mp4", "groups.mp4", "late.mp4"]
 FILES = [*SMALL, "plain.mp4", "classic.mp4", "cut.mp4", "classic.m4a", "audio.mp4"]
 SECOND = 141120000000
@@ -51,7 +51,7 @@ def main():
 
 
 def content(file):
-    """The bytes of a file: one of case_files.py, of examples/, or of the current folder."""
+    """The bytes of a file: one of case_files.py, of crates/case_runs/data, or of the current folder."""
     made, example = case_files(), os.path.join(EXAMPLES, file)
     if file in made:
         return made[file]
@@ -95,7 +95,8 @@ def script(room, lengths):
         written.write(f'blobs = ["file front"]\nsteps = [{lines}]\n')
     return name
 
-# The tables of the gate's test
+
+# The tables of the cases
 
 def rows(file):
     """Front parts with the same block but for the count of held bytes, which is 0 or counts from some byte on: the shortest,
@@ -115,17 +116,10 @@ def rows(file):
 
 
 def store():
-    with open(TABLES, "w") as out:
-        out.write("//! Files, and the blocks of their front parts, written by bench/truncated.py.\n\nuse super::Row;\n")
-        for file in SMALL:
-            found, name = rows(file), re.sub(r"\W.*", "", file.replace("-", "_")).upper()
-            out.write(f'\n#[rattlefmt::skip]\npub const {name}: &str = "{content(file).hex()}";\n')
-            out.write(f"\n#[rattlefmt::skip]\npub const {name}_BLOCKS: [Row; {len(found)}] = [\n")
-            for first, last, base, head, tail in found:
-                count = "None" if base is None else f"Some({base})"
-                texts = ", ".join('"' + part.replace("\n", "\\n") + '"' for part in [head, tail])
-                out.write(f"    ({first}, {last}, {count}, {texts}),\n")
-            out.write("];\n")
+    for file in [*SMALL, "plain.mp4"]:
+        with open(os.path.join(TABLES, file.partition(".")[0] + ".txt"), "w") as out:
+            for first, last, base, head, tail in rows(file):
+                out.write(f"bytes {first} {last} {base or 0}\n{head}{'0' if base is None else '*'}{tail}")
 
 
 # What is buffered
