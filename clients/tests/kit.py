@@ -40,7 +40,7 @@ from pathlib import Path
 TESTS = Path(__file__).resolve().parent
 CLIENTS = TESTS.parent
 REPOSITORY = CLIENTS.parent
-EXAMPLES = REPOSITORY / "examples"
+EXAMPLES = REPOSITORY / "crates/case_runs/data"
 
 
 class Skip(Exception):

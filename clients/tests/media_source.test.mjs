@@ -1,6 +1,6 @@
 // What a player's tests look like over media_source.mjs: `node --test clients/tests/`.
 //
-// The media are those of examples/. A segment of plain.mp4 has three pictures of a thirtieth of a second and 12 bytes;
+// The media are those of examples/README.md. A segment of plain.mp4 has three pictures of a thirtieth of a second and 12 bytes;
 // its place is said by `timestampOffset`.
 
 import assert from 'node:assert/strict';
@@ -12,7 +12,7 @@ import { join, resolve } from 'node:path';
 import test from 'node:test';
 import { attach, Clock, MediaElement, MediaSource, NotThereError, saveScript, settled } from '../media_source.mjs';
 
-const example = (name) => readFileSync(new URL(`../../examples/${name}`, import.meta.url));
+const example = (name) => readFileSync(new URL(`../../crates/case_runs/data/${name}`, import.meta.url));
 const PLAIN = example('plain.mp4');
 const PICTURES = { init: PLAIN.subarray(0, 595), segment: PLAIN.subarray(595), seconds: 0.1 };
 const ADTS = Buffer.from('fff14c80013ffc2100fff14c80013ffc2100', 'hex');

@@ -1,5 +1,5 @@
 #!/usr/bin/env python3
-"""Writes the pictures of docs/pictures/ anew: view.html over three outputs of examples/."""
+"""Writes the pictures of docs/pictures/ anew: view.html over three outputs of examples/README.md."""
 
 import sys
 

@@ -12,8 +12,8 @@ TICKS = 141_120_000_000
 
 
 def outputs():
-    """The files of examples/ that hold what the program printed."""
-    return [path for path in sorted(kit.EXAMPLES.glob("*.txt")) if path.name != "runs.txt"]
+    """The files of examples/README.md that hold what the program printed."""
+    return [path for path in sorted(kit.EXAMPLES.glob("*.txt")) if path.name != "cases.txt"]
 
 
 def lines_of(path):

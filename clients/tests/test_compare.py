@@ -33,7 +33,7 @@ def printed(name):
 
 
 def lone(name, lines):
-    """The differences of a text to what the program prints of a script of examples/: those without a row, and the rows."""
+    """The differences of a text to what the program prints of a script of examples/README.md: those without a row, and the rows."""
     _, _, found = compare.compared(kit.EXAMPLES / name, printed(name), "\n".join(lines) + "\n")
     return [compare.told(one) for one in found if not one.row], {one.row for one in found if one.row}
 

@@ -39,7 +39,7 @@ def program_prints(script):
 
 
 def test_scripts_of_examples():
-    """Each script of examples/ plays, and differs from the program in what docs/BROWSERS.md tells of alone."""
+    """Each script of examples/README.md plays, and differs from the program in what docs/BROWSERS.md tells of alone."""
     kit.program()
     page = kit.open_page(PAGE)
     scripts = sorted(kit.EXAMPLES.glob("*.toml"))

@@ -1,4 +1,4 @@
-"""view.html over every output of examples/: what is drawn is compared with the text, which printed.py reads by itself."""
+"""view.html over every output of examples/README.md: what is drawn is compared with the text, which printed.py reads by itself."""
 
 import html
 import itertools
@@ -463,7 +463,7 @@ def rows_of_faults():
 
 
 def test_examples_in_the_page():
-    """The three texts that the first screen offers are those of examples/."""
+    """The three texts that the first screen offers are those of examples/README.md."""
     source = VIEW.read_text()
     for name, file in [("gap", "gap.mp4.txt"), ("stall", "stall.txt"), ("feed", "feed.txt")]:
         found = re.search(rf'<script type="text/plain" id="example-{name}">\n(.*?)</script>', source, re.S)

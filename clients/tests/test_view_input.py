@@ -204,7 +204,7 @@ def check_asked(name, old, new):
 
 
 def test_scripts_anew():
-    """Each script of examples/ asks at each step, and keeps all else, its comments too."""
+    """Each script of examples/README.md asks at each step, and keeps all else, its comments too."""
     page = kit.open_page(VIEW)
     count = 0
     for path in sorted(kit.EXAMPLES.glob("*.toml")):
