@@ -21,6 +21,7 @@ pub mod Firsts
 pub mod Lasts
 mod Late
 mod InRows
+mod BlockStarts
 mod Slices
 mod SpreadOut
 mod SpanEnds

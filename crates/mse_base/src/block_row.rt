@@ -1,29 +1,13 @@
-//! Blocks side by side: places in them, and changes of one or two of them.
+//! Blocks side by side, and changes of one or two of them.
 
-ghost use Rattle.std.specs.Prelude.{◌≡◌, ◌+◌, ◌^◌, ◌<◌, ◌≤◌, [], length, true, false, OnOk, IfSome, IfNone, slice_index_or, slice_set, vec_capacity};
+ghost use Rattle.std.specs.Prelude.{◌≡◌, ℕ, ◌+◌, ◌^◌, ◌<◌, ◌≤◌, [], length, true, false, OnOk, IfSome, IfNone, slice_index_or, slice_set, vec_capacity};
 ghost use Rattle.std.specs.List.{insert, remove};
-ghost use Rattle.mse_base.specs.Rows.{row_items, start, row, split_row, merge_rows, AreFilled, AreEmpty, AreDense};
+ghost use Rattle.mse_base.specs.Rows.{row_items, start, row, split_row, merge_rows, AreFilled, AreEmpty, AreDense, AreStarts};
 
+use crate::block_starts::{BlockPlace, len_at, place_to_put, raise, restart};
 use crate::span_block::{Block, LONG};
 use crate::{OutOfMemory, Span};
 use std::alloc::Global;
-
-/// A place: a block, and how many of its spans come before.
-#[derive(Clone, Copy)]
-pub(crate) struct BlockPlace {
-    pub block: usize,
-    pub index: usize,
-}
-
-/// How many spans the block at a place holds.
-pub(crate) fn len_at(blocks: &Vec<Block>, b: usize) -> usize
-    requires { b < length blocks.now.items }
-    ensures value { result ≡ length (row blocks.now.items b) }
-    ensures bound { result ≤ 1024 }
-{
-    let block = &blocks[b];
-    block.len()
-}
 
 /// The span at a place.
 pub(crate) fn span_at(blocks: &Vec<Block>, place: BlockPlace) -> Span
@@ -37,66 +21,11 @@ pub(crate) fn span_at(blocks: &Vec<Block>, place: BlockPlace) -> Span
     block.get(place.index)
 }
 
-/// How many spans come before a block.
-pub(crate) fn start_of(blocks: &Vec<Block>, b: usize) -> usize
-    requires within { b ≤ length blocks.now.items }
-    requires small { length (row_items blocks.now.items) < 2 ^ 64 }
-    ensures { result ≡ start blocks.now.items b }
-{
-    let mut count = 0;
-    let mut i = 0;
-    while i < b {
-        count += len_at(blocks, i);
-        i += 1;
-    }
-    count
-}
-
-/// The place of a span.
-pub(crate) fn place_of(blocks: &Vec<Block>, i: usize) -> BlockPlace
-    requires { i < length (row_items blocks.now.items) }
-    ensures block { result.block < length blocks.now.items }
-    ensures index { result.index < length (row blocks.now.items result.block) }
-    ensures rank { start blocks.now.items result.block + result.index ≡ i }
-{
-    let mut index = i;
-    let mut block = 0;
-    'walk: loop {
-        let len = len_at(blocks, block);
-        if index < len {
-            return BlockPlace { block, index };
-        }
-        index -= len;
-        block += 1;
-    }
-}
-
-/// The place at which a span is put: that behind a block's last rather than before the next one's
-/// first.
-pub(crate) fn place_to_put(blocks: &Vec<Block>, i: usize) -> BlockPlace
-    requires within { i ≤ length (row_items blocks.now.items) }
-    requires some { 0 < length blocks.now.items }
-    ensures block { result.block < length blocks.now.items }
-    ensures index { result.index ≤ length (row blocks.now.items result.block) }
-    ensures rank { start blocks.now.items result.block + result.index ≡ i }
-{
-    let mut index = i;
-    let mut block = 0;
-    'walk: loop {
-        let len = len_at(blocks, block);
-        if index <= len {
-            return BlockPlace { block, index };
-        }
-        index -= len;
-        block += 1;
-    }
-}
-
 /// Puts a span into a block that has room.
 fn put_in(blocks: &mut Vec<Block>, b: usize, i: usize, x: Span)
     requires block { b < length blocks.old.items }
     requires within { i ≤ length (row blocks.old.items b) }
-    requires room { length (row blocks.old.items b) < 1024 }
+    requires room { length (row blocks.old.items b) < 128 }
     ensures rows { blocks.new.items
         ≡ slice_set blocks.old.items b (insert (row blocks.old.items b) i x) }
     ensures capacity { vec_capacity blocks.new ≡ vec_capacity blocks.old }
@@ -146,10 +75,10 @@ fn split_at(blocks: &mut Vec<Block>, b: usize, s: usize, right: Block)
 /// Where a full block is cut: the last one behind what stands before the place, so that spans
 /// which come in order leave full blocks behind.
 fn cut_place(last: bool, i: usize) -> usize
-    requires { i ≤ 1024 }
-    ensures at_least_half { 512 ≤ result }
-    ensures at_most_full { result ≤ 1024 }
-    ensures left { i < result → result ≡ 512 }
+    requires { i ≤ 128 }
+    ensures at_least_half { 64 ≤ result }
+    ensures at_most_full { result ≤ 128 }
+    ensures left { i < result → result ≡ 64 }
 {
     if last && i > LONG / 2 { i } else { LONG / 2 }
 }
@@ -158,13 +87,15 @@ fn cut_place(last: bool, i: usize) -> usize
 fn put_apart(blocks: &mut Vec<Block>, b: usize, i: usize, x: Span, right: Block)
     requires block { b < length blocks.old.items }
     requires within { i ≤ length (row blocks.old.items b) }
-    requires full { length (row blocks.old.items b) ≡ 1024 }
+    requires full { length (row blocks.old.items b) ≡ 128 }
     requires empty { right ≡ [] }
     requires room { length blocks.old.items < vec_capacity blocks.old }
     requires filled { AreFilled blocks.old.items }
     ensures spans { row_items blocks.new.items
         ≡ insert (row_items blocks.old.items) (start blocks.old.items b + i) x }
     ensures filled { AreFilled blocks.new.items }
+    ensures front { (k : ℕ) → k ≤ b
+        → start blocks.new.items k ≡ start blocks.old.items k }
     ensures len { length blocks.new.items ≡ length blocks.old.items + 1 }
     ensures capacity { vec_capacity blocks.new ≡ vec_capacity blocks.old }
 {
@@ -178,12 +109,20 @@ fn put_apart(blocks: &mut Vec<Block>, b: usize, i: usize, x: Span, right: Block)
 }
 
 /// Puts a span at a place, where its block has room; whether it has.
-pub(crate) fn put_if_room(blocks: &mut Vec<Block>, i: usize, x: &Span) -> bool
+pub(crate) fn put_if_room(
+    blocks: &mut Vec<Block>,
+    starts: &mut Vec<usize>,
+    i: usize,
+    x: &Span,
+) -> bool
     requires within { i ≤ length (row_items blocks.old.items) }
+    requires small { length (row_items blocks.old.items) + 1 < 2 ^ 64 }
+    requires starts { AreStarts starts.old.items blocks.old.items }
     requires filled { AreFilled blocks.old.items }
     ensures spans { result ≡ true
         → row_items blocks.new.items ≡ insert (row_items blocks.old.items) i x.now }
     ensures unchanged { result ≡ false → blocks.new.items ≡ blocks.old.items }
+    ensures starts { AreStarts starts.new.items blocks.new.items }
     ensures filled { AreFilled blocks.new.items }
     ensures len { length blocks.new.items ≡ length blocks.old.items }
     ensures capacity { vec_capacity blocks.new ≡ vec_capacity blocks.old }
@@ -191,21 +130,31 @@ pub(crate) fn put_if_room(blocks: &mut Vec<Block>, i: usize, x: &Span) -> bool
     if blocks.is_empty() {
         return false;
     }
-    let place = place_to_put(blocks, i);
+    let place = place_to_put(blocks, starts, i);
     if len_at(blocks, place.block) < LONG {
         put_in(blocks, place.block, place.index, *x);
+        raise(starts, place.block);
         return true;
     }
     false
 }
 
 /// Puts a span at a place, by an empty block; that block, where it was not needed.
-pub(crate) fn put(blocks: &mut Vec<Block>, i: usize, x: Span, fresh: Block) -> Option<Block>
+pub(crate) fn put(
+    blocks: &mut Vec<Block>,
+    starts: &mut Vec<usize>,
+    i: usize,
+    x: Span,
+    fresh: Block,
+) -> Option<Block>
     requires within { i ≤ length (row_items blocks.old.items) }
+    requires small { length (row_items blocks.old.items) + 1 < 2 ^ 64 }
+    requires starts { AreStarts starts.old.items blocks.old.items }
     requires empty { fresh ≡ [] }
     requires room { length blocks.old.items < vec_capacity blocks.old }
     requires filled { AreFilled blocks.old.items }
     ensures spans { row_items blocks.new.items ≡ insert (row_items blocks.old.items) i x }
+    ensures starts { AreStarts starts.new.items blocks.new.items }
     ensures filled { AreFilled blocks.new.items }
     ensures one { IfSome result
         (λ q. (q ≡ []) × (length blocks.new.items ≡ length blocks.old.items)) }
@@ -218,19 +167,21 @@ pub(crate) fn put(blocks: &mut Vec<Block>, i: usize, x: Span, fresh: Block) -> O
         blocks.push_reserved(block);
         return None;
     }
-    let place = place_to_put(blocks, i);
+    let place = place_to_put(blocks, starts, i);
     if len_at(blocks, place.block) < LONG {
         put_in(blocks, place.block, place.index, x);
+        raise(starts, place.block);
         return Some(fresh);
     }
     put_apart(blocks, place.block, place.index, x, fresh);
+    restart(blocks, starts, place.block);
     None
 }
 
 /// Makes one of block `b` and the one behind it; an empty block.
 fn join_at(blocks: &mut Vec<Block>, b: usize) -> Block
     requires within { b + 1 < length blocks.old.items }
-    requires few { length (row blocks.old.items b) + length (row blocks.old.items (b + 1)) ≤ 1024 }
+    requires few { length (row blocks.old.items b) + length (row blocks.old.items (b + 1)) ≤ 128 }
     ensures rows { blocks.new.items ≡ merge_rows blocks.old.items b }
     ensures empty { result ≡ [] }
     ensures capacity { vec_capacity blocks.new ≡ vec_capacity blocks.old }

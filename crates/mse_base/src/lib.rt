@@ -7,6 +7,7 @@
 #![tactic(auto)]
 
 mod block_row;
+mod block_starts;
 mod bridge;
 mod bytes;
 mod carve;

@@ -1,14 +1,12 @@
 //! Many spans: a list in blocks.
 
-ghost use Rattle.std.specs.Prelude.{◌≡◌, ◌+◌, ◌-◌, ◌*◌, ◌<◌, ◌≤◌, ◌<ℤ◌, ◌≤ℤ◌, ◌-ℤ◌, [], length, take, drop, IfOk, OnOk, OnErr, slice_index_or, slice_set, vec_capacity};
+ghost use Rattle.std.specs.Prelude.{◌≡◌, ◌+◌, ◌-◌, ◌*◌, ◌^◌, ◌<◌, ◌≤◌, ◌<ℤ◌, ◌≤ℤ◌, ◌-ℤ◌, [], length, take, drop, IfOk, OnOk, OnErr, slice_index_or, slice_set, vec_capacity};
 ghost use Rattle.std.specs.List.{AllByRecursion, insert, remove};
 ghost use Rattle.mse_base.specs.Spans.{IsNormalized};
-ghost use Rattle.mse_base.specs.Rows.{row_items, start, row, AreFilled, AreEmpty};
+ghost use Rattle.mse_base.specs.Rows.{row_items, start, row, AreFilled, AreEmpty, AreStarts};
 
-use crate::block_row::{
-    BlockPlace, drop_all, fill, gather, len_at, place_of, put, put_if_room, set_in, span_at,
-    start_of, take_from,
-};
+use crate::block_row::{drop_all, fill, gather, put, put_if_room, set_in, span_at, take_from};
+use crate::block_starts::{BlockPlace, GROUP, len_at, lower, place_of, restart, start_of};
 use crate::lookup::is_far_before_time;
 use crate::span_block::Block;
 use crate::{OutOfMemory, Span, Ticks};
@@ -16,15 +14,17 @@ use std::alloc::Global;
 use std::marker::Model;
 
 /// Half as many spans as a block has room for.
-const HALF: usize = 512;
+const HALF: usize = 64;
 
-/// Spans in blocks of at most 1,024, none of which is empty, with a pool of empty blocks. A span
-/// that is put in or taken out moves those of its block alone.
+/// Spans in blocks of at most 128, none of which is empty, with a pool of empty blocks. A span that
+/// is put in or taken out moves those of its block alone. The span of a number is found by how many
+/// come before each group of blocks.
 #[derive(Debug, Drop)]
 pub(crate) struct SpanBlocks {
     alloc: Global,
     blocks: Vec<Block>,
     pool: Vec<Block>,
+    starts: Vec<usize>,
     len: usize,
     spare: usize,
 }
@@ -32,28 +32,31 @@ pub(crate) struct SpanBlocks {
 impl Model for SpanBlocks {
     ghost use Rattle.std.specs.Prelude.{vec_capacity};
     ghost use Rattle.mse_base.specs.Spans.{RangesView};
-    ghost use Rattle.mse_base.specs.Rows.{row_items, IsSpread};
+    ghost use Rattle.mse_base.specs.Rows.{row_items, IsRanked};
 
     ghost Value = { RangesView };
 
     ghost view = { λ s. record { spans = row_items s.blocks.items; spare = s.spare } };
 
-    ghost invariant = { λ s. IsSpread (record {
+    ghost invariant = { λ s. IsRanked (record {
       rows = s.blocks.items;
       pool = s.pool.items;
       block_capacity = vec_capacity s.blocks;
       pool_capacity = vec_capacity s.pool;
-    }) s.len s.spare };
+    }) s.starts.items s.len s.spare };
 }
 
 /// Sees to it that the pool has a block: where it has none, neighbours are joined.
-fn refill(blocks: &mut Vec<Block>, pool: &mut Vec<Block>)
+fn refill(blocks: &mut Vec<Block>, pool: &mut Vec<Block>, starts: &mut Vec<usize>)
     requires room { length pool.old.items + length blocks.old.items ≤ vec_capacity pool.old }
     requires filled { AreFilled blocks.old.items }
     requires empty { AreEmpty pool.old.items }
-    requires enough { 2 * length (row_items blocks.old.items) + 1026
-        ≤ 1025 * (length blocks.old.items + length pool.old.items) }
+    requires enough { 2 * length (row_items blocks.old.items) + 130
+        ≤ 129 * (length blocks.old.items + length pool.old.items) }
+    requires small { length (row_items blocks.old.items) + 1 < 2 ^ 64 }
+    requires starts { AreStarts starts.old.items blocks.old.items }
     ensures some { 0 < length pool.new.items }
+    ensures starts { AreStarts starts.new.items blocks.new.items }
     ensures spans { row_items blocks.new.items ≡ row_items blocks.old.items }
     ensures filled { AreFilled blocks.new.items }
     ensures empty { AreEmpty pool.new.items }
@@ -64,17 +67,21 @@ fn refill(blocks: &mut Vec<Block>, pool: &mut Vec<Block>)
 {
     if pool.is_empty() {
         gather(blocks, pool);
+        restart(blocks, starts, 0);
     }
 }
 
 /// Takes an empty block from the pool.
-fn take_fresh(blocks: &mut Vec<Block>, pool: &mut Vec<Block>) -> Block
+fn take_fresh(blocks: &mut Vec<Block>, pool: &mut Vec<Block>, starts: &mut Vec<usize>) -> Block
     requires room { length pool.old.items + length blocks.old.items ≤ vec_capacity pool.old }
     requires filled { AreFilled blocks.old.items }
     requires empty { AreEmpty pool.old.items }
-    requires enough { 2 * length (row_items blocks.old.items) + 1026
-        ≤ 1025 * (length blocks.old.items + length pool.old.items) }
+    requires enough { 2 * length (row_items blocks.old.items) + 130
+        ≤ 129 * (length blocks.old.items + length pool.old.items) }
+    requires small { length (row_items blocks.old.items) + 1 < 2 ^ 64 }
+    requires starts { AreStarts starts.old.items blocks.old.items }
     ensures fresh { result ≡ [] }
+    ensures starts { AreStarts starts.new.items blocks.new.items }
     ensures spans { row_items blocks.new.items ≡ row_items blocks.old.items }
     ensures filled { AreFilled blocks.new.items }
     ensures empty { AreEmpty pool.new.items }
@@ -83,21 +90,30 @@ fn take_fresh(blocks: &mut Vec<Block>, pool: &mut Vec<Block>) -> Block
     ensures capacity { vec_capacity blocks.new ≡ vec_capacity blocks.old }
     ensures pool_capacity { vec_capacity pool.new ≡ vec_capacity pool.old }
 {
-    refill(blocks, pool);
+    refill(blocks, pool, starts);
     pool.take_last()
 }
 
 /// Puts in a span, by a block of the pool where none has room.
-fn put_in_place(blocks: &mut Vec<Block>, pool: &mut Vec<Block>, i: usize, x: Span)
+fn put_in_place(
+    blocks: &mut Vec<Block>,
+    pool: &mut Vec<Block>,
+    starts: &mut Vec<usize>,
+    i: usize,
+    x: Span,
+)
     requires within { i ≤ length (row_items blocks.old.items) }
     requires room { length pool.old.items + length blocks.old.items ≤ vec_capacity pool.old }
     requires block_room { length pool.old.items + length blocks.old.items
         ≤ vec_capacity blocks.old }
     requires filled { AreFilled blocks.old.items }
     requires empty { AreEmpty pool.old.items }
-    requires enough { 2 * length (row_items blocks.old.items) + 1026
-        ≤ 1025 * (length blocks.old.items + length pool.old.items) }
+    requires enough { 2 * length (row_items blocks.old.items) + 130
+        ≤ 129 * (length blocks.old.items + length pool.old.items) }
+    requires small { length (row_items blocks.old.items) + 1 < 2 ^ 64 }
+    requires starts { AreStarts starts.old.items blocks.old.items }
     ensures spans { row_items blocks.new.items ≡ insert (row_items blocks.old.items) i x }
+    ensures starts { AreStarts starts.new.items blocks.new.items }
     ensures filled { AreFilled blocks.new.items }
     ensures empty { AreEmpty pool.new.items }
     ensures len { length pool.new.items + length blocks.new.items
@@ -105,8 +121,8 @@ fn put_in_place(blocks: &mut Vec<Block>, pool: &mut Vec<Block>, i: usize, x: Spa
     ensures capacity { vec_capacity blocks.new ≡ vec_capacity blocks.old }
     ensures pool_capacity { vec_capacity pool.new ≡ vec_capacity pool.old }
 {
-    let fresh = take_fresh(blocks, pool);
-    match put(blocks, i, x, fresh) {
+    let fresh = take_fresh(blocks, pool, starts);
+    match put(blocks, starts, i, x, fresh) {
         Some(block) => pool.push_reserved(block),
         None => {}
     }
@@ -188,6 +204,7 @@ impl SpanBlocks {
             alloc,
             blocks: Vec::new(alloc),
             pool: Vec::new(alloc),
+            starts: Vec::new(alloc),
             len: 0,
             spare: 0,
         }
@@ -221,6 +238,7 @@ impl SpanBlocks {
             return Err(OutOfMemory);
         }
         let block_count = (self.len + n) / HALF + 2;
+        self.starts.reserve(block_count / GROUP)?;
         fill(&mut self.blocks, &mut self.pool, self.alloc, block_count)?;
         self.spare = n;
         Ok(())
@@ -232,6 +250,7 @@ impl SpanBlocks {
         ensures room { self.new.spare ≡ self.old.spare + length self.old.spans }
     {
         drop_all(&mut self.blocks, &mut self.pool);
+        self.starts.clear();
         self.spare += self.len;
         self.len = 0;
     }
@@ -241,7 +260,7 @@ impl SpanBlocks {
         requires { i < length self.now.spans }
         ensures { result ≡ slice_index_or self.now.spans i result }
     {
-        let place = place_of(&self.blocks, i);
+        let place = place_of(&self.blocks, &self.starts, i);
         span_at(&self.blocks, place)
     }
 
@@ -251,7 +270,7 @@ impl SpanBlocks {
         ensures spans { self.new.spans ≡ slice_set self.old.spans i x }
         ensures spare { self.new.spare ≡ self.old.spare }
     {
-        let place = place_of(&self.blocks, i);
+        let place = place_of(&self.blocks, &self.starts, i);
         set_in(&mut self.blocks, place.block, place.index, x);
     }
 
@@ -264,10 +283,10 @@ impl SpanBlocks {
     {
         self.len += 1;
         self.spare -= 1;
-        if put_if_room(&mut self.blocks, i, &x) {
+        if put_if_room(&mut self.blocks, &mut self.starts, i, &x) {
             return;
         }
-        put_in_place(&mut self.blocks, &mut self.pool, i, x);
+        put_in_place(&mut self.blocks, &mut self.pool, &mut self.starts, i, x);
     }
 
     /// Takes out a span.
@@ -276,16 +295,18 @@ impl SpanBlocks {
         ensures spans { self.new.spans ≡ remove self.old.spans i }
         ensures spare { self.new.spare ≡ self.old.spare + 1 }
     {
-        let place = place_of(&self.blocks, i);
+        let place = place_of(&self.blocks, &self.starts, i);
         self.len -= 1;
         self.spare += 1;
         if len_at(&self.blocks, place.block) > 1 {
             take_from(&mut self.blocks, place.block, place.index);
+            lower(&mut self.starts, place.block);
             return;
         }
         let mut block = self.blocks.remove(place.block);
         block.clear();
         self.pool.push_reserved(block);
+        restart(&self.blocks, &mut self.starts, place.block);
     }
 
     /// How many spans end more than the gap before a time.
@@ -299,7 +320,7 @@ impl SpanBlocks {
         if b == 0 {
             return 0;
         }
-        start_of(&self.blocks, b - 1) + spans_ending(&self.blocks, b - 1, t, gap)
+        start_of(&self.blocks, &self.starts, b - 1) + spans_ending(&self.blocks, b - 1, t, gap)
     }
 
     /// The spans in one vector.

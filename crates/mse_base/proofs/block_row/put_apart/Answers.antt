@@ -1,7 +1,8 @@
-use Rattle.std.proofs.Common.{◌≡◌, ◌∙◌, ◌+◌, ◌<◌, suc, length, arith, length-drop}
+use Rattle.std.proofs.Common.{◌≡◌, ◌∙◌, ◌+◌, ◌<◌, suc, length, ap, arith, length-drop}
 use Rattle.std.proofs.lemmas.List.{length-take-le}
-use Rattle.mse_base.specs.Rows.{row}
+use Rattle.mse_base.specs.Rows.{row, start}
 use Rattle.mse_base.proofs.InRows.{apart_left, apart_right, left_row, right_row, length_split}
+use Rattle.mse_base.proofs.BlockStarts.{start_set_front, start_split_front}
 use Rattle.mse_base.proofs.block_row.put_apart.Goals as goal
 
 pub put_in-requires-clause-block : goal.put_in-requires-clause-block
@@ -31,10 +32,22 @@ returns-then-i-s c =
     let middle = c.cut_place-s.ensures.left c.if-i-s.true in
     let within : c.cut_place-s.result < length (row c.args.blocks.now.items c.args.b) = omega (arith, c.requires.full, middle) in
     let p = apart_left c.args.blocks.now.items c.split_at.new.blocks.items c.put_in.new.blocks.items c.args.b c.args.i c.cut_place-s.result c.args.x c.split_at.ensures.rows c.put_in.ensures.rows c.requires.block c.requires.filled within c.if-i-s.true in
-    record { spans = p.spans; filled = p.filled; len = p.len; capacity = c.put_in.ensures.capacity ∙ c.split_at.ensures.capacity }
+    record {
+      spans = p.spans;
+      filled = p.filled;
+      front = λ k m. ap (λ q. start q k) c.put_in.ensures.rows ∙ start_set_front c.split_at.new.blocks.items c.args.b k _ m ∙ ap (λ q. start q k) c.split_at.ensures.rows ∙ start_split_front c.args.blocks.now.items c.args.b c.cut_place-s.result k m;
+      len = p.len;
+      capacity = c.put_in.ensures.capacity ∙ c.split_at.ensures.capacity;
+    }
 
 pub returns-else-i-s : goal.returns-else-i-s
 returns-else-i-s c =
     let some : 0 < c.cut_place-s.result = omega (arith, c.cut_place-s.ensures.at_least_half) in
     let p = apart_right c.args.blocks.now.items c.split_at.new.blocks.items c.put_in-else-i-s.new.blocks.items c.args.b c.args.i c.cut_place-s.result c.args.x c.split_at.ensures.rows c.put_in-else-i-s.ensures.rows c.requires.block c.requires.filled some c.if-i-s.false c.requires.within in
-    record { spans = p.spans; filled = p.filled; len = p.len; capacity = c.put_in-else-i-s.ensures.capacity ∙ c.split_at.ensures.capacity }
+    record {
+      spans = p.spans;
+      filled = p.filled;
+      front = λ k m. ap (λ q. start q k) c.put_in-else-i-s.ensures.rows ∙ start_set_front c.split_at.new.blocks.items (c.args.b + 1) k _ (omega (arith, m)) ∙ ap (λ q. start q k) c.split_at.ensures.rows ∙ start_split_front c.args.blocks.now.items c.args.b c.cut_place-s.result k m;
+      len = p.len;
+      capacity = c.put_in-else-i-s.ensures.capacity ∙ c.split_at.ensures.capacity;
+    }

@@ -20,7 +20,7 @@ pub overflow_add-result : goal.overflow_add-result
 overflow_add-result c =
     let rows = c.self.inside.blocks.items in
     let b = c.blocks_ending-b.result - 1 in
-    omega (arith, c.self.invariant.count, c.self.invariant.fits, c.start_of.ensures, c.spans_ending.ensures.within, row_within rows b (omega (arith, c.blocks_ending-b.ensures.within, c.if-b-eq0.false)))
+    omega (arith, c.self.invariant.spread.count, c.self.invariant.spread.fits, c.start_of.ensures, c.spans_ending.ensures.within, row_within rows b (omega (arith, c.blocks_ending-b.ensures.within, c.if-b-eq0.false)))
 
 pub returns : goal.returns
 returns c =

@@ -1,6 +1,6 @@
 use Rattle.std.proofs.Common.{◌≡◌, ◌-◌, ◌≤◌}
 use Rattle.mse_base.specs.Rows.{start}
-use Rattle.mse_base.proofs.block_row.start_of.Given as goal
+use Rattle.mse_base.proofs.block_starts.start_of.Given as goal
 
 abbrev pub invariant-loop-i : goal.invariant-loop-i
 invariant-loop-i l = record {

@@ -1,6 +1,6 @@
 use Rattle.std.proofs.Common.{◌<◌, length, arith}
 use Rattle.mse_base.proofs.InRows.{row_within, start_more}
-use Rattle.mse_base.proofs.block_row.start_of.Goals as goal
+use Rattle.mse_base.proofs.block_starts.start_of.Goals as goal
 
 pub overflow_add-count : goal.overflow_add-count
 overflow_add-count c =
