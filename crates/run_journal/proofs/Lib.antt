@@ -1,1 +1,2 @@
+pub mod CountedPlaces
 pub mod GrowingPlaces

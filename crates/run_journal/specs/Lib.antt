@@ -1,3 +1,4 @@
 pub mod JournalView
 pub mod EntryRef
 pub mod EntryPlaces
+pub mod PlacesView

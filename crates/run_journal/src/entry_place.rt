@@ -3,12 +3,13 @@
 ghost use Rattle.std.specs.Prelude.{◌≡◌, ◌+◌, ◌<◌, ◌≤◌, vec_len};
 ghost use Rattle.std.specs.Vec.{vec_capacity};
 ghost use Rattle.run_journal.specs.EntryRef.{entry_of};
-ghost use Rattle.run_journal.specs.EntryPlaces.{entry_at, IsPlaceInside, IsExtension};
+ghost use Rattle.run_journal.specs.EntryPlaces.{entry_at, count_of, IsPlaceInside, IsExtension};
 
 use crate::EntryRef;
 use mse_calls::{Answer, Call, Entry, Event, Piece};
 
 /// Where an entry is: here, but for what would not fit into a few bytes, which is named by its index in a list.
+/// Steps of work of one buffer, one behind the other, have one place.
 #[derive(Clone, Copy, Debug)]
 pub(crate) enum EntryPlace {
     /// The line of the script with that number began.
@@ -22,8 +23,8 @@ pub(crate) enum EntryPlace {
     Listener(u32, usize),
     /// An event was fired.
     Fired(Event),
-    /// The buffer of that number did one step of work.
-    Work(u32),
+    /// The buffer of that number did so many steps of work in a row; each is an entry.
+    Work(u32, usize),
     /// The element took a turn.
     Element,
 }
@@ -44,6 +45,7 @@ pub(crate) fn keep(
     requires room_for_call { vec_len calls.old < vec_capacity calls.old }
     requires room_for_piece { vec_len pieces.old < vec_capacity pieces.old }
     ensures entry { entry_at calls.new.items pieces.new.items result ≡ entry }
+    ensures single { count_of result ≡ 1 }
     ensures place_inside { IsPlaceInside calls.new.items pieces.new.items result }
     ensures calls_extended { IsExtension calls.old.items calls.new.items }
     ensures pieces_extended { IsExtension pieces.old.items pieces.new.items }
@@ -70,12 +72,12 @@ pub(crate) fn keep(
             EntryPlace::Listener(number, index)
         }
         Entry::Fired(event) => EntryPlace::Fired(event),
-        Entry::Work(k) => EntryPlace::Work(k),
+        Entry::Work(k) => EntryPlace::Work(k, 1),
         Entry::Element => EntryPlace::Element,
     }
 }
 
-/// The entry at a place.
+/// The entry at a place; of a run of steps of work, each of its entries.
 pub(crate) fn entry_ref<'a>(
     place: EntryPlace,
     calls: &'a [AnsweredCall],
@@ -96,7 +98,7 @@ pub(crate) fn entry_ref<'a>(
             EntryRef::Listener(number, call, answer)
         }
         EntryPlace::Fired(event) => EntryRef::Fired(event),
-        EntryPlace::Work(k) => EntryRef::Work(k),
+        EntryPlace::Work(k, _) => EntryRef::Work(k),
         EntryPlace::Element => EntryRef::Element,
     }
 }

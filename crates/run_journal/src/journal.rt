@@ -4,6 +4,7 @@ ghost use Rattle.run_journal.specs.EntryRef.{entry_of};
 
 use crate::EntryRef;
 use crate::entry_place::{AnsweredCall, EntryPlace, entry_ref, keep};
+use crate::places::Places;
 use mse_base::OutOfMemory;
 use mse_calls::{Entry, Piece};
 use std::alloc::Global;
@@ -14,12 +15,12 @@ const MANY: usize = 64;
 
 /// What happened in a run, in order, and room for more. It keeps for each entry a few bytes, which say where
 /// it is, calls with their answers in a list of their own, and in another one the pieces of a script's appends.
+/// A row of steps of work of one buffer takes these bytes once.
 #[derive(Debug, Drop)]
 pub struct Journal {
-    places: Vec<EntryPlace>,
+    places: Places,
     calls: Vec<AnsweredCall>,
     pieces: Vec<Piece>,
-    spare: usize,
 }
 
 impl Model for Journal {
@@ -30,15 +31,14 @@ impl Model for Journal {
     ghost Value = { JournalView };
 
     ghost view = { λ j. record {
-      entries = entries_at j.calls.items j.pieces.items j.places.items;
-      spare = j.spare;
+      entries = entries_at j.calls.items j.pieces.items j.places.list;
+      spare = j.places.spare;
     } };
 
     ghost invariant = { λ j. record {
-      places_inside : All (IsPlaceInside j.calls.items j.pieces.items) j.places.items;
-      places_room : vec_len j.places + j.spare ≤ vec_capacity j.places;
-      calls_room : vec_len j.calls + j.spare ≤ vec_capacity j.calls;
-      pieces_room : vec_len j.pieces + j.spare ≤ vec_capacity j.pieces;
+      places_inside : All (IsPlaceInside j.calls.items j.pieces.items) j.places.list;
+      calls_room : vec_len j.calls + j.places.spare ≤ vec_capacity j.calls;
+      pieces_room : vec_len j.pieces + j.places.spare ≤ vec_capacity j.pieces;
     } };
 }
 
@@ -48,10 +48,9 @@ impl Journal {
         ensures { result.entries ≡ [] }
     {
         Journal {
-            places: Vec::new(alloc),
+            places: Places::new(alloc),
             calls: Vec::new(alloc),
             pieces: Vec::new(alloc),
-            spare: 0,
         }
     }
 
@@ -67,17 +66,18 @@ impl Journal {
         ensures { option_map entry_of result ≡ slice_get self.now.entries i }
     {
         let place = self.places.get(i)?;
-        Some(entry_ref(*place, &self.calls, &self.pieces))
+        Some(entry_ref(place, &self.calls, &self.pieces))
     }
 
-    /// Makes room for at least `n` more entries. An `Err` leaves the entries and the room.
+    /// Makes room for at least `n` more entries. An `Err` leaves the entries and the room; it comes where
+    /// memory is wanting, or where the entries would be more than a `usize` counts.
     pub fn reserve(&mut self, n: usize) -> Result<(), OutOfMemory>
         ensures spare { OnOk result (n ≤ self.new.spare) }
         ensures no_room_lost { self.old.spare ≤ self.new.spare }
         ensures same_room { OnErr result (self.new.spare ≡ self.old.spare) }
         ensures entries { self.new.entries ≡ self.old.entries }
     {
-        if n <= self.spare {
+        if n <= self.places.spare() {
             return Ok(());
         }
         self.reserve_more(n)
@@ -106,11 +106,9 @@ impl Journal {
         ensures same_room { OnErr result (self.new.spare ≡ self.old.spare) }
         ensures entries { self.new.entries ≡ self.old.entries }
     {
-        self.places.try_reserve(n)?;
         self.calls.try_reserve(n)?;
         self.pieces.try_reserve(n)?;
-        self.spare = self.spare.max(n);
-        Ok(())
+        self.places.reserve(n)
     }
 
     /// Puts an entry last, in reserved room, which falls by one. It takes no memory.
@@ -121,7 +119,6 @@ impl Journal {
     {
         let place = keep(&mut self.calls, &mut self.pieces, entry);
         self.places.push_reserved(place);
-        self.spare -= 1;
     }
 
     /// Puts the entry of a step of work on the buffer of a number last, in reserved room, which
@@ -131,7 +128,6 @@ impl Journal {
         ensures entries { self.new.entries ≡ self.old.entries ++ Work k ∷ [] }
         ensures spare { self.new.spare + 1 ≡ self.old.spare }
     {
-        self.places.push_reserved(EntryPlace::Work(k));
-        self.spare -= 1;
+        self.places.push_reserved(EntryPlace::Work(k, 1));
     }
 }

@@ -7,6 +7,7 @@
 mod entry_place;
 mod entry_ref;
 mod journal;
+mod places;
 
 pub use entry_ref::EntryRef;
 pub use journal::Journal;

@@ -49,3 +49,49 @@ fn keeps_calls(rt: HostRuntime) -> Result<(), Fail> {
     };
     Ok(())
 }
+
+/// The buffer of a step of work in the journal; `None` where another entry stands.
+fn worked_at(journal: &Journal, i: usize) -> Option<u32> {
+    match journal.get(i) {
+        Some(EntryRef::Work(k)) => Some(k),
+        _ => None,
+    }
+}
+
+/// Steps of work stand one by one, whatever ends a run of them: one on another buffer, or another entry.
+#[test]
+fn keeps_runs_of_work(rt: HostRuntime) -> Result<(), Fail> {
+    let wanted = [
+        Some(1),
+        Some(1),
+        Some(1),
+        Some(2),
+        Some(2),
+        Some(1),
+        None,
+        Some(1),
+        Some(1),
+        None,
+    ];
+    let mut journal = Journal::new(rt.alloc());
+    journal.reserve(10)?;
+    journal.push_work_reserved(1);
+    journal.push_work_reserved(1);
+    journal.push_reserved(Entry::Work(1));
+    journal.push_work_reserved(2);
+    journal.push_work_reserved(2);
+    journal.push_work_reserved(1);
+    journal.push_reserved(Entry::Step(7));
+    journal.push_work_reserved(1);
+    journal.push_work_reserved(1);
+    journal.push_reserved(Entry::Element);
+    assert_eq!(rt; journal.len(), 10);
+    for i in 0..10 {
+        let found = worked_at(&journal, i);
+        assert!(rt; found == wanted[i], "another entry at {i}: {found:?}");
+    }
+    assert!(rt; matches!(journal.get(6), Some(EntryRef::Step(7))));
+    assert!(rt; matches!(journal.get(9), Some(EntryRef::Element)));
+    assert!(rt; journal.get(10).is_none());
+    Ok(())
+}
