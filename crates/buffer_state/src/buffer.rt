@@ -1,4 +1,4 @@
-ghost use Rattle.std.specs.Prelude.{◌≡◌, ◌≢◌, ◌<◌, ◌≤◌, ◌^◌, ℤ, pos, ◌≤ℤ◌, not, find, length, Option, Some, None, IfOk, OnErr};
+ghost use Rattle.std.specs.Prelude.{◌≡◌, ◌≢◌, ◌<◌, ◌≤◌, ◌^◌, pos, ◌≤ℤ◌, not, find, length, Option, Some, None, IfOk, OnErr};
 ghost use Rattle.std.specs.List.{AllByRecursion};
 ghost use Rattle.mse_base.specs.declared.ticks.Moment.{Moment};
 ghost use Rattle.mse_base.specs.Moments.{IsNotAfter};
@@ -11,7 +11,7 @@ ghost use Rattle.track_buffers.specs.Settings.{new_media};
 ghost use Rattle.track_buffers.specs.Media.{is_awaiting_first};
 ghost use Rattle.track_buffers.specs.Frames.{used_in, highest_start_in, highest_end_in};
 ghost use Rattle.track_buffers.specs.Buffered.{buffered_of};
-ghost use Rattle.buffer_state.specs.State.{Feed, Content, KeptBuffer, Stands, Surroundings, surroundings, AppendInput, append_input, new_feed, phase_in, ready_in, is_updating, is_appending, is_removing};
+ghost use Rattle.buffer_state.specs.State.{Feed, Content, KeptBuffer, Stands, surroundings, append_input, new_feed, phase_in, ready_in, is_updating, is_appending, is_removing};
 ghost use Rattle.buffer_state.specs.Replies.{IsDone, IsStillWithin, HasRangesAfterInit, IsTurnIfOk, IfDid, changes_of};
 ghost use Rattle.buffer_state.specs.Turns.{turn_result};
 ghost use Rattle.buffer_state.specs.Calls.{has_generated_timestamps, end_work_result, buffer_view};
@@ -225,19 +225,31 @@ impl<S: FrameStore> Buffer<S> {
     }
 
     /// The name by which [`call`](Self::call) would be refused before anything comes of it, if it
-    /// would. It takes no memory.
+    /// would. For an append it does not look at the quota, since coded frames are evicted before that.
+    /// For a mode or an offset within a media segment it tells a name only where the source is not
+    /// ended, since an ended source is opened again first. It takes no memory.
     pub fn refusal_of(&self, call: &BufferCall, around: &BufferContext) -> Option<Name>
         ensures { IsRefusal (call_at around.now call.now) (surroundings around.now) self.now
             result }
     {
         match *call {
-            BufferCall::SetMode(mode) => self.mode_refusal(mode, around),
-            BufferCall::SetOffset(Moment::At(_)) => self.offset_refusal(around),
-            BufferCall::SetWindowStart(Moment::At(t)) => self.window_start_refusal(t),
-            BufferCall::SetWindowEnd(t) => self.window_end_refusal(t),
-            BufferCall::Remove(Moment::At(start), end) => self.remove_refusal(start, end, around),
-            BufferCall::Append(Some(_)) => self.append_refusal(around),
-            BufferCall::Abort => self.abort_refusal(around),
+            BufferCall::SetMode(mode) => {
+                settings_calls::mode_refusal(&self.stream, &self.media, &self.running, mode, around)
+            }
+            BufferCall::SetOffset(Moment::At(_)) => {
+                settings_calls::offset_refusal(&self.stream, &self.media, &self.running, around)
+            }
+            BufferCall::SetWindowStart(Moment::At(t)) => {
+                settings_calls::window_start_refusal(&self.media, &self.running, t)
+            }
+            BufferCall::SetWindowEnd(t) => {
+                settings_calls::window_end_refusal(&self.media, &self.running, &t)
+            }
+            BufferCall::Remove(Moment::At(start), end) => {
+                removal::remove_refusal(&self.running, start, &end, around)
+            }
+            BufferCall::Append(Some(_)) => appending::append_refusal(&self.running, around),
+            BufferCall::Abort => resets::abort_refusal(&self.running, around),
             BufferCall::ChangeType(answer) => resets::change_type_refusal(&self.running, answer),
             BufferCall::SetOffset(Moment::Nan | Moment::Infinite)
             | BufferCall::SetWindowStart(Moment::Nan | Moment::Infinite)
@@ -316,71 +328,6 @@ impl<S: FrameStore> Buffer<S> {
                 Ok(Turned::Did(reply))
             }
         }
-    }
-
-    /// The name by which [`set_mode`](Self::set_mode) would be refused before anything comes of it,
-    /// if it would. In a media segment that is where the source is not ended: an ended source is
-    /// opened again first. It takes no memory.
-    pub fn mode_refusal(&self, mode: Mode, around: &BufferContext) -> Option<Name>
-        ensures { IsRefusal (calls.SetMode mode) (surroundings around.now) self.now result }
-    {
-        settings_calls::mode_refusal(&self.stream, &self.media, &self.running, mode, around)
-    }
-
-    /// The name by which [`set_offset`](Self::set_offset) would be refused before anything comes of
-    /// it, if it would; in a media segment as at [`mode_refusal`](Self::mode_refusal).
-    pub fn offset_refusal(&self, around: &BufferContext) -> Option<Name>
-        ensures { (t : ℤ) → IsRefusal (calls.SetOffset (Moment.At t)) (surroundings around.now)
-            self.now result }
-    {
-        settings_calls::offset_refusal(&self.stream, &self.media, &self.running, around)
-    }
-
-    /// The name by which [`set_window_start`](Self::set_window_start) would be refused, if it would.
-    pub fn window_start_refusal(&self, t: Ticks) -> Option<Name>
-        ensures { (a : Surroundings) → IsRefusal (calls.SetWindowStart (Moment.At t)) a self.now
-            result }
-    {
-        settings_calls::window_start_refusal(&self.media, &self.running, t)
-    }
-
-    /// The name by which [`set_window_end`](Self::set_window_end) would be refused, if it would.
-    pub fn window_end_refusal(&self, t: Moment) -> Option<Name>
-        ensures { (a : Surroundings) → IsRefusal (calls.SetWindowEnd t) a self.now result }
-    {
-        settings_calls::window_end_refusal(&self.media, &self.running, &t)
-    }
-
-    /// The name by which [`remove`](Self::remove) would be refused, if it would.
-    pub fn remove_refusal(&self, start: Ticks, end: Moment, around: &BufferContext) -> Option<Name>
-        ensures { IsRefusal (calls.Remove (Moment.At start) end) (surroundings around.now) self.now
-            result }
-    {
-        removal::remove_refusal(&self.running, start, &end, around)
-    }
-
-    /// The name by which [`append`](Self::append) would be refused before coded frames are evicted,
-    /// if it would. It does not look at the quota.
-    pub fn append_refusal(&self, around: &BufferContext) -> Option<Name>
-        ensures { (input : AppendInput) → IsRefusal (calls.Append (Some input))
-            (surroundings around.now) self.now result }
-    {
-        appending::append_refusal(&self.running, around)
-    }
-
-    /// The name by which [`abort`](Self::abort) would be refused, if it would.
-    pub fn abort_refusal(&self, around: &BufferContext) -> Option<Name>
-        ensures { IsRefusal calls.Abort (surroundings around.now) self.now result }
-    {
-        resets::abort_refusal(&self.running, around)
-    }
-
-    /// The name by which [`change_type`](Self::change_type) would be refused, if it would.
-    pub fn change_type_refusal(&self, text: &str) -> Option<Name>
-        ensures { (a : Surroundings) → IsRefusal (calls.ChangeType (type_of text.now)) a self.now
-            result }
-    {
-        resets::change_type_refusal(&self.running, read_type(text))
     }
 
     /// What is buffered (Media Source Extensions, 3.1, `buffered`), where the source is ended or

@@ -21,11 +21,9 @@ use crate::faults::{Fault, fault_view};
 use crate::reply::{Reply, effect_reply, error_reply, event_reply, two};
 use crate::running::Running;
 use byte_stream::{ByteFault, ByteStream, Next};
-use mse_base::{CodedFrame, Moment, OutOfMemory, Presentation, Ticks};
+use mse_base::{Moment, OutOfMemory, Presentation, Ticks};
 use mse_calls::{Changes, EventKind};
-use track_buffers::{
-    MediaEffect, MediaFault, SourceEffect, TrackBuffers, media_track_count, no_effect,
-};
+use track_buffers::{MediaEffect, SourceEffect, TrackBuffers, media_track_count, no_effect};
 use track_store::FrameStore;
 
 /// What the next item did.
@@ -163,111 +161,6 @@ fn answer<S: FrameStore>(
     }
 }
 
-/// What comes of a coded frame that breaks the byte stream.
-fn frame_fault<S: FrameStore>(
-    stream: &mut ByteStream,
-    media: &mut TrackBuffers<S>,
-    running: &mut Running,
-    fault: MediaFault,
-    offset: u64,
-    effect: SourceEffect,
-    around: &BufferContext,
-) -> Reply
-    requires { stream.old.offered ≡ None }
-    ensures answered { IsBufferAnswer (kept_buffer stream.old media.old.media running.old) result
-        (kept_buffer stream.new media.new.media running.new)
-        (step_turn (ItemEffect.AppendError (Fault.Media fault) offset effect)
-        (surroundings around.now)) }
-    ensures within_duration { (d : Moment) → AreEndedWithin d media.old.media.tracks
-        → AreEndedWithin d media.new.media.tracks }
-    ensures duration { result.duration ≡ effect.duration }
-    ensures changes { result.duration_changes ≡ effect.duration_changes }
-    ensures nothing_runs { running.new ≡ Running.Nothing }
-    ensures none_offered { stream.new.offered ≡ None }
-{
-    media.reset_parser();
-    stream.reset();
-    *running = Running::Nothing;
-    let fault = fault_view(Fault::Media(fault), around.number, offset);
-    error_reply(fault, effect)
-}
-
-/// One step of an append where a coded frame comes next.
-fn frame_turn<S: FrameStore>(
-    stream: &mut ByteStream,
-    media: &mut TrackBuffers<S>,
-    running: &mut Running,
-    around: &BufferContext,
-) -> Result<Reply, OutOfMemory>
-    requires none_offered { stream.old.offered ≡ None }
-    requires appending { running.old ≡ Running.Append }
-    requires ready { 0 < ready_of stream.old }
-    ensures answered { IsBufferAnswerIfOk
-        (kept_buffer stream.old media.old.media running.old) result
-        (kept_buffer stream.new media.new.media running.new)
-        (λ f c. append_turn_result (next_item f) (surroundings around.now) f c) }
-    ensures within_duration { IfOk result
-        (λ reply. IsStillWithin around.now.duration media.old.media reply media.new.media) }
-    ensures no_fall { IfOk result (λ reply. IsNotAfter around.now.duration reply.duration) }
-    ensures changes { IfOk result (λ reply. reply.duration_changes ≤ 1) }
-    ensures fewer { OnOk result
-        (steps_left (kept_buffer stream.new media.new.media running.new) < steps_left
-        (kept_buffer stream.old media.old.media running.old)) }
-    ensures none_offered { stream.new.offered ≡ None }
-    ensures err { OnErr result (kept_buffer stream.new media.new.media running.new
-        ≡ kept_buffer stream.old media.old.media running.old) }
-{
-    media.reserve_frames(1)?;
-    // The proof reads off this that the stream stands for some string.
-    stream.stands();
-    let (frame, offset) = stream.next_frame()?;
-    // what is buffered at the position is looked up behind the step
-    media.watch(around.position);
-    match media.process(frame, around.duration) {
-        MediaEffect::Done(effect) => Ok(effect_reply(false, effect, Changes::new())),
-        MediaEffect::AppendError(fault, effect) => {
-            Ok(frame_fault(stream, media, running, fault, offset, effect, around))
-        }
-    }
-}
-
-/// One step of an append where no coded frame comes next.
-fn item_turn<S: FrameStore>(
-    stream: &mut ByteStream,
-    media: &mut TrackBuffers<S>,
-    running: &mut Running,
-    around: &BufferContext,
-) -> Result<Reply, OutOfMemory>
-    requires none_offered { stream.old.offered ≡ None }
-    requires appending { running.old ≡ Running.Append }
-    requires none_ready { ready_of stream.old ≡ 0 }
-    ensures answered { IsBufferAnswerIfOk
-        (kept_buffer stream.old media.old.media running.old) result
-        (kept_buffer stream.new media.new.media running.new)
-        (λ f c. append_turn_result (next_item f) (surroundings around.now) f c) }
-    ensures within_duration { IfOk result
-        (λ reply. IsStillWithin around.now.duration media.old.media reply media.new.media) }
-    ensures no_fall { IfOk result (λ reply. IsNotAfter around.now.duration reply.duration) }
-    ensures changes { IfOk result (λ reply. reply.duration_changes ≤ 1) }
-    ensures fewer { OnOk result
-        (steps_left (kept_buffer stream.new media.new.media running.new) < steps_left
-        (kept_buffer stream.old media.old.media running.old)) }
-    ensures none_offered { stream.new.offered ≡ None }
-    ensures err { OnErr result (kept_buffer stream.new media.new.media running.new
-        ≡ kept_buffer stream.old media.old.media running.old) }
-{
-    // The proof reads off this that the stream stands for some string.
-    stream.stands();
-    match prepare(stream, media, around.duration)? {
-        Some(step) => Ok(answer(stream, media, running, step, around)),
-        None => {
-            let next = stream.next()?;
-            let step = take_item(media, next, around.duration);
-            Ok(answer(stream, media, running, step, around))
-        }
-    }
-}
-
 /// One step of an append. It takes its memory first.
 pub(crate) fn append_turn<S: FrameStore>(
     stream: &mut ByteStream,
@@ -292,10 +185,29 @@ pub(crate) fn append_turn<S: FrameStore>(
     ensures err { OnErr result (kept_buffer stream.new media.new.media running.new
         ≡ kept_buffer stream.old media.old.media running.old) }
 {
+    // The proof reads off this that the stream stands for some string.
+    stream.stands();
     if stream.ready_frames() > 0 {
-        return frame_turn(stream, media, running, around);
+        media.reserve_frames(1)?;
+        let (frame, offset) = stream.next_frame()?;
+        // what is buffered at the position is looked up behind the step
+        media.watch(around.position);
+        return match media.process(frame, around.duration) {
+            MediaEffect::Done(effect) => Ok(effect_reply(false, effect, Changes::new())),
+            MediaEffect::AppendError(fault, effect) => {
+                let step = ItemEffect::AppendError(Fault::Media(fault), offset, effect);
+                Ok(answer(stream, media, running, step, around))
+            }
+        };
     }
-    item_turn(stream, media, running, around)
+    match prepare(stream, media, around.duration)? {
+        Some(step) => Ok(answer(stream, media, running, step, around)),
+        None => {
+            let next = stream.next()?;
+            let step = take_item(media, next, around.duration);
+            Ok(answer(stream, media, running, step, around))
+        }
+    }
 }
 
 /// A removal, in one step.

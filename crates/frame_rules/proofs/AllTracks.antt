@@ -14,14 +14,15 @@ use Rattle.frame_rules.specs.Timing.{timing_of}
 use Rattle.frame_rules.specs.declared.answer.Placed.{Placed}
 use Rattle.frame_rules.specs.declared.answer.Placed.TheVariants as placed_as
 use Rattle.std.proofs.lemmas.Bool.Decides.{nat_tests}
-use Rattle.std.proofs.lemmas.List.{length-map, get_or-map}
+use Rattle.std.proofs.lemmas.List.{length-map, map-set, get_or-map}
 use Rattle.std.proofs.lemmas.List.Sums.{get_or-le-sum_by}
 use Rattle.track_store.specs.Frames.{bytes_of}
 use Rattle.frame_rules.specs.Put.{drop_reason, track_after_frame, answer_by_reason}
 use Rattle.track_store.specs.Kept.{bytes_in, IsCountable}
-use Rattle.frame_rules.specs.Place.{Placement, new_placement, marks_after_reset, with_reset_marks, track_after_reset, placement_in_track, placement_by_times, placement, is_over_limit, settings_after_frame, IsReadyForFrame}
+use Rattle.frame_rules.specs.Place.{Placement, new_placement, marks_after_reset, with_reset_marks, track_after_reset, placement_in_track, placement_by_times, placement, is_over_limit, settings_after_frame, IsReadyForFrame, IsReadyForFrameAt}
+use Rattle.frame_rules.specs.Placing.{IsPlaceable}
 
-pub if_some_map : {X Y : Type 0} (o : Option X) (f : X → Y) (P : X → Type 0) (Q : Y → Type 0) → ((x : X) → P x → Q (f x)) → IfSome o P → IfSome (option_map f o) Q
+if_some_map : {X Y : Type 0} (o : Option X) (f : X → Y) (P : X → Type 0) (Q : Y → Type 0) → ((x : X) → P x → Q (f x)) → IfSome o P → IfSome (option_map f o) Q
 if_some_map None f P Q k h = h
 if_some_map (Some x) f P Q k h = k x h
 
@@ -29,16 +30,11 @@ pub states_marked : {S : Type 0} (frames : S → List Stored) (w : Timing) (ts :
 states_marked frames w [] = refl
 states_marked frames w (t ∷ ts) = ap (λ rest. track_after_reset w (state_of frames t) ∷ rest) (states_marked frames w ts)
 
-pub outcome_in : {S : Type 0} (frames : S → List Stored) (w : Timing) (f : CodedFrame) (i : ℕ) (ts : List (Track S)) (answer : Placed) (news : List TrackState) (settings : Settings) → i < length ts → IfSome (slice_get ts i) (λ t. news ≡ set (states_of frames ts) i (track_after_frame w f (state_of frames t))) → IfSome (slice_get ts i) (λ t. answer ≡ answer_by_reason (drop_reason w f.sync t.marks.need_sync)) → settings ≡ settings_after_frame answer w → new_placement answer news settings ≡ placement_in_track (slice_get (states_of frames ts) i) w f i (states_of frames ts)
-outcome_in frames w f i ts answer news settings low news_are answer_is settings_are =
-    elim (slice_get_cases ts i).1 [
-      | inl found ↦
-          (let here = slice_get-map (state_of frames) ts i ∙ ap (option_map (state_of frames)) found.2 in
-          let all = rw found.2 at news_are in
-          let own = rw found.2 at answer_is in
-          rw (here, all, settings_are, own) refl)
-      | inr past ↦ absurd (omega arith)
-    ]
+pub placed_at : {S : Type 0} (frames : S → List Stored) (w : Timing) (f : CodedFrame) (i : ℕ) (ts : List (Track S)) (t u : Track S) (answer : Placed) (settings : Settings) → slice_get ts i ≡ Some t → state_of frames u ≡ track_after_frame w f (state_of frames t) → answer ≡ answer_by_reason (drop_reason w f.sync t.marks.need_sync) → settings ≡ settings_after_frame answer w → new_placement answer (states_of frames (set ts i u)) settings ≡ placement_in_track (slice_get (states_of frames ts) i) w f i (states_of frames ts)
+placed_at frames w f i ts t u answer settings there state_is answer_is settings_are =
+    let here = slice_get-map (state_of frames) ts i ∙ ap (option_map (state_of frames)) there in
+    let all = map-set (state_of frames) ts i u ∙ ap (λ (x : TrackState). set (states_of frames ts) i x) state_is in
+    rw (here, all, settings_are, answer_is) refl
 
 -- a track stays sound where a frame of its buffer begins a group
 together_needs : (decode duration end : Option ℤ) (first : Option ℕ) (need : Bool) → AreTogether decode duration end first need → AreTogether decode duration end first true
@@ -66,8 +62,18 @@ received_either n false k m p q = q
 pub received_broken : (w : Timing) (m : Marks) → m.received < 2 ^ 62 → (marks_after_reset w m).received < 2 ^ 62
 received_broken w m h = received_either (2 ^ 62) w.discontinuity _ _ h (received_either (2 ^ 62) w.starts_group (record m { need_sync = true }) m h h)
 
-pub ready_marked : {S : Type 0} (frames : S → List Stored) (spare : S → ℕ) (bytes : ℕ) (w : Timing) (t : Track S) → IsReadyForFrame frames spare bytes t → IsReadyForFrame frames spare bytes (with_reset_marks w t)
+ready_marked : {S : Type 0} (frames : S → List Stored) (spare : S → ℕ) (bytes : ℕ) (w : Timing) (t : Track S) → IsReadyForFrame frames spare bytes t → IsReadyForFrame frames spare bytes (with_reset_marks w t)
 ready_marked frames spare bytes w t h = record { sound = sound_break w (state_of frames t) h.sound; room = h.room; count = received_broken w t.marks h.count; small = h.small }
+
+pub ready_reset : {S : Type 0} (frames : S → List Stored) (spare : S → ℕ) (i : ℕ) (f : CodedFrame) (w : Timing) (ts us : List (Track S)) → us ≡ map (with_reset_marks w) ts → IsReadyForFrameAt frames spare i f ts → IsReadyForFrameAt frames spare i f us
+ready_reset frames spare i f w ts us is h =
+    let ready = IsReadyForFrame frames spare (length f.payload) in
+    let as_long = length-map ts (with_reset_marks w) in
+    rw is (record {
+      in_range = let low = h.in_range in omega arith;
+      track = rw (slice_get-map (with_reset_marks w) ts i) (if_some_map (slice_get ts i) (with_reset_marks w) ready ready (ready_marked frames spare (length f.payload) w) h.track);
+      dur_not_negative = h.dur_not_negative;
+    })
 
 -- the bytes of the track at a place are among those of all
 used_within : {S : Type 0} (frames : S → List Stored) (ts : List (Track S)) (i : ℕ) (t : Track S) → i < length ts → get_or ts i t ≡ t → bytes_of (frames t.store) ≤ bytes_in (states_of frames ts)
@@ -125,10 +131,11 @@ count_track : {S : Type 0} (frames : S → List Stored) (o : Option (Track S)) �
 count_track frames None h = tt
 count_track frames (Some t) h = h
 
-pub ready_sound : {S : Type 0} (frames : S → List Stored) (spare : S → ℕ) (ts : List (Track S)) (i : ℕ) (bytes : ℕ) → IfSome (slice_get (states_of frames ts) i) IsSound → IfSome (slice_get (states_of frames ts) i) IsCountable → IfSome (slice_get ts i) (λ t. 1 ≤ spare t.store) → IfSome (slice_get ts i) (λ t. false ≡ is_over_limit t.marks.received (bytes_in (states_of frames ts)) bytes) → IfSome (slice_get ts i) (λ t. IsReadyForFrame frames spare bytes t)
-ready_sound frames spare ts i bytes h few room fits =
-    let sound = sound_track frames (slice_get ts i) (rw (slice_get-map (state_of frames) ts i) at h) in
-    ready_at frames spare ts i bytes sound room (count_track frames (slice_get ts i) (rw (slice_get-map (state_of frames) ts i) at few)) fits
+pub ready_sound : {S : Type 0} (frames : S → List Stored) (spare : S → ℕ) (ts : List (Track S)) (i : ℕ) (f : CodedFrame) (s : Settings) → IsPlaceable frames spare i f s ts → IfSome (slice_get ts i) (λ t. false ≡ is_over_limit t.marks.received (bytes_in (states_of frames ts)) (length f.payload)) → IsReadyForFrameAt frames spare i f ts
+ready_sound frames spare ts i f s h fits =
+    let sound = sound_track frames (slice_get ts i) (rw (slice_get-map (state_of frames) ts i) at h.sound) in
+    let count = count_track frames (slice_get ts i) (rw (slice_get-map (state_of frames) ts i) at h.count) in
+    record { in_range = h.in_range; track = ready_at frames spare ts i (length f.payload) sound h.room count fits; dur_not_negative = h.dur_not_negative }
 
 -- where neither step has anything to do, no marks change
 idle_marks : {S : Type 0} (w : Timing) (t : Track S) → w.discontinuity ≡ false → w.starts_group ≡ false → t ≡ with_reset_marks w t

@@ -9,7 +9,8 @@ use Rattle.mse_base.proofs.TickLemmas.{tick_some, tick_in_range}
 use Rattle.mse_base.specs.declared.frame.CodedFrame.{CodedFrame}
 use Rattle.track_store.specs.declared.tracks.Marks.{Marks}
 use Rattle.track_store.specs.declared.tracks.Settings.{Settings}
-use Rattle.track_store.specs.State.{TrackState}
+use Rattle.track_store.specs.Room.{Room}
+use Rattle.track_store.specs.State.{TrackState, states_of}
 use Rattle.track_store.specs.Sound.{IsSound}
 use Rattle.frame_rules.specs.declared.timing.Timing.{Timing}
 use Rattle.frame_rules.specs.Timing.{raw_time, settings_at_group_start, offset_to, timing_in_pass, is_discontinuous, settings_after_discontinuity, timing_of, IsTimingOf}
@@ -18,14 +19,16 @@ use Rattle.frame_rules.specs.declared.answer.Placed.{Placed}
 use Rattle.track_store.specs.Kept.{bytes_in, IsCountable, AreSoundAndCountable, AreEndedBy, AreStillSound}
 use Rattle.frame_rules.specs.Place.{Placement, track_after_reset, placement_in_track, placement_at_times, placement_by_times, placement_in, placement, is_over_limit, new_placement, settings_after_frame, limit_after}
 use Rattle.frame_rules.specs.declared.answer.Placed.TheVariants as placed_as
+use Rattle.frame_rules.specs.Placing.{AreStoresKept, IsPlaceable, IsPlaced}
 use Rattle.std.proofs.lemmas.List.Sums.{sum_by-cons}
 use Rattle.std.proofs.lemmas.Option.{same_Some, slice_get_cases}
 use Rattle.track_store.specs.declared.tracks.Track.{Track}
+use Rattle.track_store.specs.declared.store.Stored.{Stored}
 use Rattle.track_store.specs.Frames.{bytes_of}
 use Rattle.track_store.proofs.Limits.{ended_later, max_left}
 use Rattle.track_store.proofs.StillSound.{still_same, still_map, still_both, still_set, all_still}
 use Rattle.frame_rules.proofs.PutFrames.{sound_put, counted_put, used_put, end_put}
-use Rattle.frame_rules.proofs.AllTracks.{sound_break, received_broken, fits_of}
+use Rattle.frame_rules.proofs.AllTracks.{sound_break, received_broken, fits_of, placed_counted}
 
 -- what holds of each value that a chain of steps gives
 if_some_then : {A B : Type 0} (o : Option A) (k : A → Option B) (Q : B → Type 0) → ((x : A) → IfSome (k x) Q) → IfSome (option_and_then k o) Q
@@ -165,10 +168,10 @@ firm_of None ts s i f e own small low lasts = firm_same ts small
 firm_of (Some t) ts s i f e own small low lasts = firm_cond (is_over_limit t.marks.received (bytes_in ts) (length f.payload)) t s f i ts refl e own small low lasts
 
 -- the same of tracks that are what the definition leaves
-pub firm_left : (news : List TrackState) (o : Placement) (ts : List TrackState) (s : Settings) (i : ℕ) (f : CodedFrame) → o.tracks ≡ news → o ≡ placement ts s i f → IfSome (slice_get ts i) IsCountable → bytes_in ts < 2 ^ 62 → pos 0 ≤ℤ s.window_start → pos 0 ≤ℤ f.dur → IsFirm ts news
+firm_left : (news : List TrackState) (o : Placement) (ts : List TrackState) (s : Settings) (i : ℕ) (f : CodedFrame) → o.tracks ≡ news → o ≡ placement ts s i f → IfSome (slice_get ts i) IsCountable → bytes_in ts < 2 ^ 62 → pos 0 ≤ℤ s.window_start → pos 0 ≤ℤ f.dur → IsFirm ts news
 firm_left news o ts s i f own is few small low lasts = subst (λ (us : List TrackState). IsFirm ts us) (sym (ap (λ p. p.tracks) is) ∙ own) (firm_of (slice_get ts i) ts s i f refl few small low lasts)
 
-pub kept_of : (ts us : List TrackState) → IsFirm ts us → AreSoundAndCountable ts → AreSoundAndCountable us
+kept_of : (ts us : List TrackState) → IsFirm ts us → AreSoundAndCountable ts → AreSoundAndCountable us
 kept_of ts us firm h = record { sound = all_still ts us firm.sound h.sound; counted = firm.counted h.counted; small = firm.small }
 
 -- the window stays
@@ -194,7 +197,7 @@ of_window : (o : Option TrackState) (ts : List TrackState) (s : Settings) (i : �
 of_window None ts s i f = refl
 of_window (Some t) ts s i f = cond_window (is_over_limit t.marks.received (bytes_in ts) (length f.payload)) s _ _ refl (by_window (timing_of s t.marks f) s f i ts (times_window s t.marks f))
 
-pub placed_window : (ts : List TrackState) (s : Settings) (i : ℕ) (f : CodedFrame) → (placement ts s i f).settings.window_start ≡ s.window_start
+placed_window : (ts : List TrackState) (s : Settings) (i : ℕ) (f : CodedFrame) → (placement ts s i f).settings.window_start ≡ s.window_start
 placed_window ts s i f = of_window (slice_get ts i) ts s i f
 
 -- the frame of a track that is there
@@ -254,9 +257,27 @@ end_of : (o : Option TrackState) (ts : List TrackState) (s : Settings) (i : ℕ)
 end_of None ts s i f limit sound h = h
 end_of (Some t) ts s i f limit sound h = end_cond limit (is_over_limit t.marks.received (bytes_in ts) (length f.payload)) (new_placement placed_as.Counts ts s) (placement_by_times (timing_of s t.marks f) s f i ts) h (end_times (timing_of s t.marks f) s f i ts limit (timing_is s t.marks f) sound h)
 
-pub end_placed : (ts : List TrackState) (s : Settings) (i : ℕ) (f : CodedFrame) (limit : ℤ) → IfSome (slice_get ts i) IsSound → AreEndedBy limit ts → IsPlacementEndedBy limit (placement ts s i f)
+end_placed : (ts : List TrackState) (s : Settings) (i : ℕ) (f : CodedFrame) (limit : ℤ) → IfSome (slice_get ts i) IsSound → AreEndedBy limit ts → IsPlacementEndedBy limit (placement ts s i f)
 end_placed ts s i f limit sound h = end_of (slice_get ts i) ts s i f limit sound h
 
 -- the same of a placement that is what the definition leaves
-pub end_left : (answer : Placed) (news : List TrackState) (settings : Settings) (ts : List TrackState) (s : Settings) (i : ℕ) (f : CodedFrame) (limit : ℤ) → new_placement answer news settings ≡ placement ts s i f → IfSome (slice_get ts i) IsSound → AreEndedBy limit ts → AreEndedBy (limit_after answer limit settings.group_end) news
+end_left : (answer : Placed) (news : List TrackState) (settings : Settings) (ts : List TrackState) (s : Settings) (i : ℕ) (f : CodedFrame) (limit : ℤ) → new_placement answer news settings ≡ placement ts s i f → IfSome (slice_get ts i) IsSound → AreEndedBy limit ts → AreEndedBy (limit_after answer limit settings.group_end) news
 end_left answer news settings ts s i f limit is sound h = subst (λ (o : Placement). IsPlacementEndedBy limit o) (sym is) (end_placed ts s i f limit sound h)
+
+-- ---- all of it
+
+pub placed_by : {S : Type 0} (frames : S → List Stored) (spare : S → ℕ) (gap : S → ℤ) (i : ℕ) (f : CodedFrame) (s : Settings) (old : Room (Track S)) (answer : Placed) (settings : Settings) (new : Room (Track S)) → IsPlaceable frames spare i f s old.items → IfSome (slice_get old.items i) (λ t. false ≡ is_over_limit t.marks.received (bytes_in (states_of frames old.items)) (length f.payload)) → IfSome (slice_get old.items i) (λ t. new_placement answer (states_of frames new.items) settings ≡ placement_by_times (timing_of s t.marks f) s f i (states_of frames old.items)) → AreStoresKept spare gap i old.items new.items → new.spare ≡ old.spare → IsPlaced frames spare gap i f s old answer settings new
+placed_by frames spare gap i f s old answer settings new h fits is stores places =
+    let ts = states_of frames old.items in
+    let placed = placed_counted frames old.items s i f _ h.in_range fits is in
+    let firm = firm_left _ _ ts s i f refl placed h.count h.small h.window_start h.dur_not_negative in
+    record {
+      placement = placed;
+      sound = firm.sound;
+      small = firm.small;
+      sound_and_countable = kept_of ts _ firm;
+      window_start = subst (λ (z : ℤ). pos 0 ≤ℤ z) (sym (ap (λ (o : Placement). o.settings.window_start) placed ∙ placed_window ts s i f)) h.window_start;
+      ends = λ limit all. end_left _ _ _ ts s i f limit placed h.sound all;
+      stores = stores;
+      places = places;
+    }

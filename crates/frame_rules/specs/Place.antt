@@ -1,5 +1,5 @@
 -- Coded frame processing as one function on lists (Media Source Extensions, 3.5.8).
-use Rattle.std.specs.Prelude.{ℕ, ℤ, ◌+◌, ◌<◌, ◌≤◌, ◌≢◌, ◌^◌, Bool, ◌||◌, ◌==◌, nat_le, List, map, length, slice_get, slice_set, Option, Some, None, if◌then◌else◌}
+use Rattle.std.specs.Prelude.{ℕ, ℤ, pos, ◌≤ℤ◌, ◌+◌, ◌<◌, ◌≤◌, ◌≢◌, ◌^◌, Bool, ◌||◌, ◌==◌, nat_le, List, map, length, slice_get, slice_set, Option, Some, None, if◌then◌else◌}
 use Rattle.std.specs.Int.{int_max}
 use Rattle.std.specs.Option.{IfSome}
 use Rattle.mse_base.specs.declared.frame.CodedFrame.{CodedFrame}
@@ -100,6 +100,13 @@ pub record IsReadyForFrame {S : Type 0} (frames : S → List Stored) (spare : S 
   pub room : 1 ≤ spare t.store
   pub count : t.marks.received < 2 ^ 62
   pub small : bytes_of (frames t.store) + bytes < 2 ^ 62
+
+-- a frame that does not end before it begins can be put into the track at a place
+pub record IsReadyForFrameAt {S : Type 0} (frames : S → List Stored) (spare : S → ℕ) (i : ℕ)
+    (f : CodedFrame) (ts : List (Track S)) : Type 0 where
+  pub in_range : i < length ts
+  pub track : IfSome (slice_get ts i) (IsReadyForFrame frames spare (length f.payload))
+  pub dur_not_negative : pos 0 ≤ℤ f.dur
 
 -- no store lost room but the one at the place, which lost room for one frame at most
 abbrev pub IsRoomTakenAt : {S : Type 0} → (S → ℕ) → ℕ → List (Track S) → List (Track S) → Type 0

@@ -1,11 +1,10 @@
-ghost use Rattle.std.specs.Prelude.{◌≡◌, ◌<◌, ◌≤◌, ◌^◌, ℤ, pos, ◌≤ℤ◌, ◌||◌, length, map, slice_get, slice_set, false, Some, IfSome, OnSome};
-ghost use Rattle.track_store.specs.State.{state_of, states_of};
-ghost use Rattle.track_store.specs.Kept.{bytes_in, gaps_of};
-ghost use Rattle.frame_rules.specs.Put.{drop_reason, track_after_frame, answer_by_reason};
+ghost use Rattle.std.specs.Prelude.{◌≡◌, ◌<◌, ◌^◌, ◌||◌, map, slice_get, slice_set, Some, IfSome};
+ghost use Rattle.track_store.specs.State.{states_of};
+ghost use Rattle.track_store.specs.Kept.{bytes_in};
 ghost use Rattle.frame_rules.specs.Plain.{timing_by};
 ghost use Rattle.frame_rules.specs.Timing.{timing_of, IsTimingOf};
-ghost use Rattle.frame_rules.specs.Placing.{IsPlaceable, IsPlaced};
-ghost use Rattle.frame_rules.specs.Place.{marks_after_reset, with_reset_marks, is_over_limit, settings_after_frame, new_placement, placement_at_times, placement_by_times, IsReadyForFrame, IsRoomTakenAt};
+ghost use Rattle.frame_rules.specs.Placing.{AreStoresKept, IsPlaceable, IsPlaced};
+ghost use Rattle.frame_rules.specs.Place.{marks_after_reset, with_reset_marks, is_over_limit, settings_after_frame, new_placement, placement_in_track, placement_by_times, IsReadyForFrameAt};
 
 use crate::answer::Placed;
 use crate::storing::put;
@@ -105,10 +104,9 @@ fn plain_times_at<S: FrameStore>(
     index: usize,
     frame: &CodedFrame,
 ) -> Option<Times>
-    ensures timing { IfSome (slice_get tracks.now.items index) (λ t. IfSome result
+    ensures { IfSome (slice_get tracks.now.items index) (λ t. IfSome result
         (λ times. Some (timing_by settings.now times)
         ≡ timing_of settings.now t.marks frame.now)) }
-    ensures no_generate { OnSome result (settings.now.generate ≡ false) }
 {
     match tracks.get(index) {
         Some(track) => plain_times(settings, &track.marks, frame),
@@ -116,114 +114,42 @@ fn plain_times_at<S: FrameStore>(
     }
 }
 
-/// The settings after a frame: steps 1.20 and 1.21.
-fn settings_after_frame(timing: &Timing, answer: &Placed) -> Settings
-    ensures { result ≡ settings_after_frame answer.now timing.now }
-{
-    let mut settings = timing.settings;
-    if let Placed::Stored = answer {
-        settings.group_end = settings.group_end.max(timing.end);
-        if settings.generate {
-            settings.offset = timing.end;
-        }
-    }
-    settings
-}
-
-/// Steps 1.20 and 1.21 after a plain frame.
-fn raise_group_end(settings: &mut Settings, times: &Times, answer: &Placed)
-    requires { settings.old.generate ≡ false }
+/// Steps 1.20 and 1.21, after a frame.
+fn update_settings(settings: &mut Settings, times: &Times, answer: &Placed)
     ensures { settings.new ≡ settings_after_frame answer.now (timing_by settings.old times.now) }
 {
     if let Placed::Stored = answer {
         settings.group_end = settings.group_end.max(times.end);
+        if settings.generate {
+            settings.offset = times.end;
+        }
     }
 }
 
-/// Puts a frame into the track buffer at a place, or drops it.
-fn put_at<S: FrameStore>(
+/// Places a frame whose times are known in its track alone, or drops it: steps 1.8 to 1.21.
+fn place_in_track<S: FrameStore>(
     tracks: &mut Tracks<S>,
-    settings: &Settings,
+    settings: &mut Settings,
     index: usize,
     times: &Times,
     frame: CodedFrame,
 ) -> Placed
-    requires in_range { index < length tracks.old.items }
-    requires ready { IfSome (slice_get tracks.old.items index)
-        (λ t. IsReadyForFrame S.frames S.spare (length frame.payload) t) }
-    requires dur_not_negative { pos 0 ≤ℤ frame.dur }
-    requires timed { IsTimingOf frame (timing_by settings.now times.now) }
-    ensures states { IfSome (slice_get tracks.old.items index)
-        (λ t. states_of S.frames tracks.new.items
-        ≡ slice_set (states_of S.frames tracks.old.items) index
-        (track_after_frame (timing_by settings.now times.now) frame (state_of S.frames t))) }
-    ensures answer { IfSome (slice_get tracks.old.items index) (λ t. result
-        ≡ answer_by_reason (drop_reason (timing_by settings.now times.now) frame.sync
-        t.marks.need_sync)) }
-    ensures spare { IsRoomTakenAt S.spare index tracks.old.items tracks.new.items }
-    ensures gaps { gaps_of S.gap tracks.new.items ≡ gaps_of S.gap tracks.old.items }
+    requires ready { IsReadyForFrameAt S.frames S.spare index frame tracks.old.items }
+    requires timed { IsTimingOf frame (timing_by settings.old times.now) }
+    ensures placement { new_placement result (states_of S.frames tracks.new.items) settings.new
+        ≡ placement_in_track (slice_get (states_of S.frames tracks.old.items) index)
+        (timing_by settings.old times.now) frame index (states_of S.frames tracks.old.items) }
+    ensures stores { AreStoresKept S.spare S.gap index tracks.old.items tracks.new.items }
     ensures places { tracks.new.spare ≡ tracks.old.spare }
 {
     match tracks.get_mut(index) {
-        Some(track) => put(track, times, settings, frame),
+        Some(track) => {
+            let answer = put(track, times, settings, frame);
+            update_settings(settings, times, &answer);
+            answer
+        }
         None => Placed::Counts,
     }
-}
-
-/// Places a frame whose times are known: all steps but those that find them.
-fn place_at_times<S: FrameStore>(
-    tracks: &mut Tracks<S>,
-    settings: &mut Settings,
-    index: usize,
-    timing: &Timing,
-    frame: CodedFrame,
-) -> Placed
-    requires in_range { index < length tracks.old.items }
-    requires ready { IfSome (slice_get tracks.old.items index)
-        (λ t. IsReadyForFrame S.frames S.spare (length frame.payload) t) }
-    requires dur_not_negative { pos 0 ≤ℤ frame.dur }
-    requires timed { IsTimingOf frame timing.now }
-    ensures placement { new_placement result (states_of S.frames tracks.new.items) settings.new
-        ≡ placement_at_times timing.now frame index (states_of S.frames tracks.old.items) }
-    ensures spare { IsRoomTakenAt S.spare index tracks.old.items tracks.new.items }
-    ensures gaps { gaps_of S.gap tracks.new.items ≡ gaps_of S.gap tracks.old.items }
-    ensures places { tracks.new.spare ≡ tracks.old.spare }
-{
-    reset_where_due(tracks, timing);
-    let times = Times {
-        pts: timing.pts,
-        dts: timing.dts,
-        end: timing.end,
-    };
-    let answer = put_at(tracks, &timing.settings, index, &times, frame);
-    *settings = settings_after_frame(timing, &answer);
-    answer
-}
-
-/// Places a plain frame: no other track changes, and of the settings the group end alone.
-fn place_plain<S: FrameStore>(
-    tracks: &mut Tracks<S>,
-    settings: &mut Settings,
-    index: usize,
-    times: &Times,
-    frame: CodedFrame,
-) -> Placed
-    requires in_range { index < length tracks.old.items }
-    requires ready { IfSome (slice_get tracks.old.items index)
-        (λ t. IsReadyForFrame S.frames S.spare (length frame.payload) t) }
-    requires dur_not_negative { pos 0 ≤ℤ frame.dur }
-    requires timed { IsTimingOf frame (timing_by settings.old times.now) }
-    requires no_generate { settings.old.generate ≡ false }
-    ensures placement { new_placement result (states_of S.frames tracks.new.items) settings.new
-        ≡ placement_at_times (timing_by settings.old times.now) frame index
-        (states_of S.frames tracks.old.items) }
-    ensures spare { IsRoomTakenAt S.spare index tracks.old.items tracks.new.items }
-    ensures gaps { gaps_of S.gap tracks.new.items ≡ gaps_of S.gap tracks.old.items }
-    ensures places { tracks.new.spare ≡ tracks.old.spare }
-{
-    let answer = put_at(tracks, settings, index, times, frame);
-    raise_group_end(settings, times, &answer);
-    answer
 }
 
 /// Places a frame by its timing, whichever it is.
@@ -235,46 +161,26 @@ fn place_by_timing<S: FrameStore>(
     index: usize,
     frame: CodedFrame,
 ) -> Placed
-    requires in_range { index < length tracks.old.items }
-    requires ready { IfSome (slice_get tracks.old.items index)
-        (λ t. IsReadyForFrame S.frames S.spare (length frame.payload) t) }
-    requires dur_not_negative { pos 0 ≤ℤ frame.dur }
+    requires { IsReadyForFrameAt S.frames S.spare index frame tracks.old.items }
     ensures placement { IfSome (slice_get tracks.old.items index)
         (λ t. new_placement result (states_of S.frames tracks.new.items) settings.new
         ≡ placement_by_times (timing_of settings.old t.marks frame) settings.old frame index
         (states_of S.frames tracks.old.items)) }
-    ensures spare { IsRoomTakenAt S.spare index tracks.old.items tracks.new.items }
-    ensures gaps { gaps_of S.gap tracks.new.items ≡ gaps_of S.gap tracks.old.items }
+    ensures stores { AreStoresKept S.spare S.gap index tracks.old.items tracks.new.items }
     ensures places { tracks.new.spare ≡ tracks.old.spare }
 {
     match timing_at(tracks, settings, index, &frame) {
-        Some(timing) => place_at_times(tracks, settings, index, &timing, frame),
+        Some(timing) => {
+            reset_where_due(tracks, &timing);
+            *settings = timing.settings;
+            let times = Times {
+                pts: timing.pts,
+                dts: timing.dts,
+                end: timing.end,
+            };
+            place_in_track(tracks, settings, index, &times, frame)
+        }
         None => Placed::TimeRange,
-    }
-}
-
-/// Places a frame whose counts stay below their limits.
-fn place_below_limits<S: FrameStore>(
-    tracks: &mut Tracks<S>,
-    settings: &mut Settings,
-    index: usize,
-    frame: CodedFrame,
-) -> Placed
-    requires in_range { index < length tracks.old.items }
-    requires ready { IfSome (slice_get tracks.old.items index)
-        (λ t. IsReadyForFrame S.frames S.spare (length frame.payload) t) }
-    requires dur_not_negative { pos 0 ≤ℤ frame.dur }
-    ensures placement { IfSome (slice_get tracks.old.items index)
-        (λ t. new_placement result (states_of S.frames tracks.new.items) settings.new
-        ≡ placement_by_times (timing_of settings.old t.marks frame) settings.old frame index
-        (states_of S.frames tracks.old.items)) }
-    ensures spare { IsRoomTakenAt S.spare index tracks.old.items tracks.new.items }
-    ensures gaps { gaps_of S.gap tracks.new.items ≡ gaps_of S.gap tracks.old.items }
-    ensures places { tracks.new.spare ≡ tracks.old.spare }
-{
-    match plain_times_at(tracks, settings, index, &frame) {
-        Some(times) => place_plain(tracks, settings, index, &times, frame),
-        None => place_by_timing(tracks, settings, index, frame),
     }
 }
 
@@ -295,7 +201,10 @@ pub fn place_with_used<S: FrameStore>(
     if is_full(tracks, index, used, frame.payload.len()) {
         return Placed::Counts;
     }
-    place_below_limits(tracks, settings, index, frame)
+    match plain_times_at(tracks, settings, index, &frame) {
+        Some(times) => place_in_track(tracks, settings, index, &times, frame),
+        None => place_by_timing(tracks, settings, index, frame),
+    }
 }
 
 /// Processes a coded frame of the track at place `index` (Media Source Extensions, 3.5.8, step 1).

@@ -1,4 +1,4 @@
-ghost use Rattle.std.specs.Prelude.{◌≡◌, ◌||◌, ◌&&◌, ◌-ℤ◌, ◌*ℤ◌, pos, false, Some, None, is_some, IfSome, OnSome};
+ghost use Rattle.std.specs.Prelude.{◌≡◌, ◌||◌, ◌&&◌, ◌-ℤ◌, ◌*ℤ◌, pos, Some, None, is_some, IfSome};
 ghost use Rattle.frame_rules.specs.Plain.{timing_by};
 ghost use Rattle.frame_rules.specs.Timing.{raw_time, settings_at_group_start, has_group_start, timing_in_pass, is_discontinuous, settings_after_discontinuity, timing_of};
 
@@ -138,9 +138,8 @@ pub fn timing_of(settings: &Settings, marks: &Marks, frame: &CodedFrame) -> Opti
 /// its timestamps are not generated, and it follows no discontinuity. `None` for other frames, and
 /// where a time is out of range.
 pub fn plain_times(settings: &Settings, marks: &Marks, frame: &CodedFrame) -> Option<Times>
-    ensures timing { IfSome result (λ timing. Some (timing_by settings.now timing)
+    ensures { IfSome result (λ times. Some (timing_by settings.now times)
         ≡ timing_of settings.now marks.now frame.now) }
-    ensures no_generate { OnSome result (settings.now.generate ≡ false) }
 {
     if settings.sequence || settings.generate {
         return None;

@@ -104,6 +104,3 @@ turn_fewer Idle ks i old new e h = tt
 -- how often a call changes the duration at most
 pub most_there : (ks : KeptBuffers) (i : ℕ) (call : CallView) (k : Option KeptBuffer) → slice_get ks i ≡ Some k → most_changes_of i call ks ≡ most_changes_in_slot call k
 most_there ks i call k e = ap (λ (o : Option (Option KeptBuffer)). most_changes_in_slot call (option_flatten o)) e
-
-pub most_none : (ks : KeptBuffers) (i : ℕ) (call : CallView) → slice_get ks i ≡ None → most_changes_of i call ks ≡ 0
-most_none ks i call e = ap (λ (o : Option (Option KeptBuffer)). most_changes_in_slot call (option_flatten o)) e

@@ -16,15 +16,10 @@ use Rattle.source_buffers.specs.State.{KeptBuffers, in_slot, kept_media, all_kep
 use Rattle.source_buffers.specs.All.{AreSound, IsSoundSlot, is_updating_slot}
 use Rattle.source_buffers.specs.Buffered.{IsElementBuffered, active_ranges, element_ranges, shared_ranges, slot_ranges}
 
-pub media_there : (ks : KeptBuffers) (i : ℕ) (k : Option KeptBuffer) → slice_get ks i ≡ Some k → in_slot i (all_kept_media ks) ≡ kept_media k
-media_there [] i k e = absurd cc
-media_there (x ∷ ks) zero k e = let same : x ≡ k = cc in ap kept_media same
-media_there (x ∷ ks) (suc i) k e = media_there ks i k e
-
-pub media_none : (ks : KeptBuffers) (i : ℕ) → slice_get ks i ≡ None → in_slot i (all_kept_media ks) ≡ None
-media_none [] i e = refl
-media_none (x ∷ ks) zero e = absurd cc
-media_none (x ∷ ks) (suc i) e = media_none ks i e
+pub media_in : (ks : KeptBuffers) (k : ℕ) (o : Option KeptBuffer) → in_slot k ks ≡ o → in_slot k (all_kept_media ks) ≡ kept_media o
+media_in [] k o e = ap kept_media e
+media_in (x ∷ ks) zero o e = ap kept_media e
+media_in (x ∷ ks) (suc k) o e = media_in ks k o e
 
 -- at a place of the list
 pub media_at : (ks : KeptBuffers) (i : ℕ) (k : Option KeptBuffer) → slice_get ks i ≡ Some k → slice_get (all_kept_media ks) i ≡ Some (kept_media k)

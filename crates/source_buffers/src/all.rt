@@ -3,8 +3,8 @@
 ghost use Rattle.std.specs.Prelude.{◌≡◌, ◌<◌, ◌≤◌, ◌^◌, length, slice_get, option_copied, option_map, IfSome};
 ghost use Rattle.std.specs.List.{list_any};
 ghost use Rattle.track_buffers.specs.Frames.{highest_start_in, highest_end_in};
-ghost use Rattle.source_buffers.specs.State.{HasSlotReading, HasStates, all_kept_media, all_kept_running, kept_media, kept_running};
-ghost use Rattle.source_buffers.specs.All.{AreSound, IsSoundSlot, are_initialized, greatest_of_all, highest_end_of_all, is_initialized_slot, is_updating_at, is_updating_slot, lowest_running, most_changes_in_slot, most_changes_of, slot_times};
+ghost use Rattle.source_buffers.specs.State.{HasSlotReading, HasStates, all_kept_media, all_kept_running, in_slot, kept_media, kept_running};
+ghost use Rattle.source_buffers.specs.All.{AreSound, IsSoundSlot, are_initialized, greatest_of_all, highest_end_of_all, is_initialized_slot, is_updating_at, is_updating_slot, lowest_running, most_changes_of, slot_times};
 ghost use Rattle.source_buffers.specs.Buffered.{slot_track, track_at};
 ghost use Rattle.mse_base.specs.Moments.{greatest};
 ghost use Rattle.track_store.specs.State.{state_of};
@@ -23,6 +23,20 @@ pub(crate) fn slot_at<S: FrameStore>(
     ensures { option_copied result ≡ slice_get slots.now.items k }
 {
     slots.get(k)
+}
+
+/// The buffer of a number; `None` where none was ever made with it, or it was removed.
+pub(crate) fn buffer_at<S: FrameStore>(
+    slots: &Vec<Option<Buffer<S>>>,
+    k: usize,
+) -> Option<&Buffer<S>>
+    ensures { option_copied result ≡ in_slot k slots.now.items }
+{
+    match slot_at(slots, k) {
+        Some(Some(buffer)) => Some(buffer),
+        Some(None) => None,
+        None => None,
+    }
 }
 
 /// Whether an append or a removal runs at the buffer in a slot.
@@ -71,18 +85,6 @@ pub(crate) fn lowest_running<S: FrameStore>(slots: &Vec<Option<Buffer<S>>>) -> O
     None
 }
 
-/// How often a call on the buffer in a slot changes the duration at most.
-fn most_changes_in<S: FrameStore>(slot: &Option<Buffer<S>>, call: &BufferCall) -> usize
-    ensures most { (a : BufferContext) → result
-        ≡ most_changes_in_slot (call_at a call.now) slot.now }
-    ensures few { result ≤ 2 ^ 20 }
-{
-    match slot {
-        Some(buffer) => buffer.most_changes(call),
-        None => 0,
-    }
-}
-
 /// How often a call on the buffer of a number changes the duration at most; 0 where no buffer is.
 pub(crate) fn most_changes<S: FrameStore>(
     slots: &Vec<Option<Buffer<S>>>,
@@ -93,8 +95,8 @@ pub(crate) fn most_changes<S: FrameStore>(
         slots.now.items }
     ensures few { result ≤ 2 ^ 20 }
 {
-    match slot_at(slots, k) {
-        Some(slot) => most_changes_in(slot, call),
+    match buffer_at(slots, k) {
+        Some(buffer) => buffer.most_changes(call),
         None => 0,
     }
 }

@@ -7,7 +7,7 @@ ghost use Rattle.track_buffers.specs.Buffered.{buffered_of, last_end, last_ends,
 ghost use Rattle.source_buffers.specs.State.{all_kept_media, in_slot, kept_media};
 ghost use Rattle.source_buffers.specs.Buffered.{active_ranges, buffered_at, element_ranges, element_span, shared_ranges, slot_ranges};
 
-use crate::all::{slot_at, sound};
+use crate::all::{buffer_at, slot_at, sound};
 use buffer_state::Buffer;
 use mse_base::{OutOfMemory, Ranges, Span, Ticks};
 use std::alloc::Global;
@@ -48,15 +48,12 @@ fn number_at(active: &[u32], i: usize) -> Option<u32>
     active.get(i).copied()
 }
 
-/// Where the last range of the buffer in a slot ends, where the source is ended.
-fn slot_end<S: FrameStore>(slot: &Option<Buffer<S>>) -> Option<Ticks>
-    ensures { result ≡ last_end (slot_ranges true (kept_media slot.now)) }
+/// Where the last range of a buffer ends, where the source is ended.
+fn buffer_end<S: FrameStore>(buffer: &Buffer<S>) -> Option<Ticks>
+    ensures { result ≡ last_end (buffered_of true buffer.now.media) }
 {
-    match slot {
-        Some(buffer) => match buffer.last_span(true) {
-            Some(last) => Some(last.end),
-            None => None,
-        },
+    match buffer.last_span(true) {
+        Some(last) => Some(last.end),
         None => None,
     }
 }
@@ -64,8 +61,8 @@ fn slot_end<S: FrameStore>(slot: &Option<Buffer<S>>) -> Option<Ticks>
 fn end_in<S: FrameStore>(slots: &Vec<Option<Buffer<S>>>, k: usize) -> Option<Ticks>
     ensures { result ≡ last_end (slot_ranges true (in_slot k (all_kept_media slots.now.items))) }
 {
-    match slot_at(slots, k) {
-        Some(slot) => slot_end(slot),
+    match buffer_at(slots, k) {
+        Some(buffer) => buffer_end(buffer),
         None => None,
     }
 }
@@ -224,22 +221,7 @@ fn span_holding<S: FrameStore>(
     }
 }
 
-fn slot_span<S: FrameStore>(
-    slot: &Option<Buffer<S>>,
-    t: Ticks,
-    ended: bool,
-    end: &Option<Ticks>,
-) -> Option<Span>
-    requires { ended ≡ false → end.now ≡ None }
-    ensures { result ≡ find (reaches t)
-        (with_end end.now (slot_ranges ended (kept_media slot.now))) }
-{
-    match slot {
-        Some(buffer) => span_holding(buffer, t, ended, end),
-        None => None,
-    }
-}
-
+/// The same of the buffer of a number; `None` where no buffer is.
 fn span_in<S: FrameStore>(
     slots: &Vec<Option<Buffer<S>>>,
     k: usize,
@@ -251,8 +233,8 @@ fn span_in<S: FrameStore>(
     ensures { result ≡ find (reaches t)
         (with_end end.now (slot_ranges ended (in_slot k (all_kept_media slots.now.items)))) }
 {
-    match slot_at(slots, k) {
-        Some(slot) => slot_span(slot, t, ended, end),
+    match buffer_at(slots, k) {
+        Some(buffer) => span_holding(buffer, t, ended, end),
         None => None,
     }
 }
@@ -301,43 +283,6 @@ fn shared_span<S: FrameStore>(
     span
 }
 
-/// The range of the buffer in a slot that holds a time, where the source is not ended.
-fn own_slot_span<S: FrameStore>(slot: &Option<Buffer<S>>, t: Ticks) -> Option<Span>
-    ensures { result ≡ find (reaches t) (slot_ranges false (kept_media slot.now)) }
-{
-    match slot {
-        Some(buffer) => buffer.span_holding(t, false),
-        None => None,
-    }
-}
-
-fn own_span_in<S: FrameStore>(slots: &Vec<Option<Buffer<S>>>, k: usize, t: Ticks) -> Option<Span>
-    ensures { result ≡ find (reaches t)
-        (slot_ranges false (in_slot k (all_kept_media slots.now.items))) }
-{
-    match slot_at(slots, k) {
-        Some(slot) => own_slot_span(slot, t),
-        None => None,
-    }
-}
-
-/// The range of the active buffer at a place that holds a time, where the source is not ended.
-fn own_span_at<S: FrameStore>(
-    slots: &Vec<Option<Buffer<S>>>,
-    active: &[u32],
-    i: usize,
-    t: Ticks,
-) -> Option<Span>
-    ensures { IfSome (slice_get
-        (active_ranges false active.now (all_kept_media slots.now.items)) i)
-        (λ r. result ≡ find (reaches t) r) }
-{
-    match number_at(active, i) {
-        Some(k) => own_span_in(slots, k as usize, t),
-        None => None,
-    }
-}
-
 /// The range of the element that holds a time. That of one active buffer is its own where the
 /// source is not ended.
 pub(crate) fn element_span<S: FrameStore>(
@@ -349,7 +294,7 @@ pub(crate) fn element_span<S: FrameStore>(
     ensures { result ≡ element_span t ended active.now (all_kept_media slots.now.items) }
 {
     if !ended && active.len() == 1 {
-        return own_span_at(slots, active, 0, t);
+        return span_at(slots, active, 0, t, false, &None);
     }
     shared_span(slots, active, t, ended)
 }

@@ -1,8 +1,9 @@
 //! Calls and turns as data, and what is heard of them.
 
-use buffer_state::{Buffer, BufferContext, Container, Reply, Turned};
+use buffer_state::{Buffer, BufferCall as Call, BufferContext, Container, Reply, Turned};
 use mse_base::{Bytes, Moment, OutOfMemory, Phase, Ticks};
 use mse_calls::{EventKind, FaultView, Mode, Name, Ready};
+use mse_types::read_type;
 use std::alloc::Global;
 use std::test::Fail;
 use track_store::ListStore;
@@ -222,22 +223,23 @@ pub(super) fn perform(
 
 /// The name by which it would be refused before anything comes of it.
 pub(super) fn refusal(scene: &OneBufferScene, act: BufferCall) -> Result<Option<Name>, Fail> {
-    let (buffer, around) = (&scene.buffer, &scene.around);
-    match act {
-        BufferCall::Append(_, _) => Ok(buffer.append_refusal(around)),
-        BufferCall::Abort => Ok(buffer.abort_refusal(around)),
-        BufferCall::Type(text) => Ok(buffer.change_type_refusal(text)),
-        BufferCall::Mode(mode) => Ok(buffer.mode_refusal(mode, around)),
-        BufferCall::Offset(_) => Ok(buffer.offset_refusal(around)),
-        BufferCall::WindowStart(t) => Ok(buffer.window_start_refusal(time(t)?)),
-        BufferCall::WindowEnd(t) => Ok(buffer.window_end_refusal(Moment::At(time(t)?))),
-        BufferCall::Remove(t) => Ok(buffer.remove_refusal(time(t)?, Moment::Infinite, around)),
+    let bytes = Bytes::copy_of(scene.alloc, &[])?;
+    let call = match act {
+        BufferCall::Append(_, _) => Call::Append(Some(&bytes)),
+        BufferCall::Abort => Call::Abort,
+        BufferCall::Type(text) => Call::ChangeType(read_type(text)),
+        BufferCall::Mode(mode) => Call::SetMode(mode),
+        BufferCall::Offset(t) => Call::SetOffset(Moment::At(time(t)?)),
+        BufferCall::WindowStart(t) => Call::SetWindowStart(Moment::At(time(t)?)),
+        BufferCall::WindowEnd(t) => Call::SetWindowEnd(Moment::At(time(t)?)),
+        BufferCall::Remove(t) => Call::Remove(Moment::At(time(t)?), Moment::Infinite),
         BufferCall::Turn
         | BufferCall::Drain
         | BufferCall::EndWork
         | BufferCall::Duration(_)
-        | BufferCall::Ended => Ok(None),
-    }
+        | BufferCall::Ended => return Ok(None),
+    };
+    Ok(scene.buffer.refusal_of(&call, &scene.around))
 }
 
 /// What a buffer shows.

@@ -1,20 +1,19 @@
-use Rattle.std.proofs.Common.{◌≡◌, ◌∙◌, sym, ap, slice_get, true}
+use Rattle.std.proofs.Common.{◌≡◌, ◌∙◌, sym, ap, true}
 use Rattle.std.specs.Prelude.{Option, Some, None}
 use Rattle.std.specs.Option.{option_copied}
 use Rattle.track_buffers.specs.Media.{Media}
 use Rattle.track_buffers.specs.Buffered.{last_end}
+use Rattle.source_buffers.specs.State.{in_slot}
 use Rattle.source_buffers.specs.Buffered.{slot_ranges}
-use Rattle.source_buffers.proofs.SlotLookUps.{media_there, media_none}
+use Rattle.source_buffers.proofs.SlotLookUps.{media_in}
 use Rattle.source_buffers.proofs.element.end_in.Goals as goal
 
 pub returns-in-Some : goal.returns-in-Some
 returns-in-Some g c =
-    let ks = c.args.slots.now.items in
-    let at : slice_get ks c.args.k ≡ Some c.in-Some.slot.now = sym c.slot_at.ensures ∙ ap option_copied c.in-Some.is in
-    c.slot_end.ensures ∙ sym (ap (λ (m : Option Media). last_end (slot_ranges true m)) (media_there ks c.args.k c.in-Some.slot.now at))
+    let there : in_slot c.args.k c.args.slots.now.items ≡ Some c.in-Some.buffer.now = sym c.buffer_at.ensures ∙ ap option_copied c.in-Some.is in
+    c.buffer_end.ensures ∙ sym (ap (λ (m : Option Media). last_end (slot_ranges true m)) (media_in c.args.slots.now.items c.args.k (Some c.in-Some.buffer.now) there))
 
 pub returns-in-None : goal.returns-in-None
 returns-in-None g c =
-    let ks = c.args.slots.now.items in
-    let at : slice_get ks c.args.k ≡ None = sym c.slot_at.ensures ∙ ap option_copied c.in-None.is in
-    sym (ap (λ (m : Option Media). last_end (slot_ranges true m)) (media_none ks c.args.k at))
+    let none : in_slot c.args.k c.args.slots.now.items ≡ None = sym c.buffer_at.ensures ∙ ap option_copied c.in-None.is in
+    sym (ap (λ (m : Option Media). last_end (slot_ranges true m)) (media_in c.args.slots.now.items c.args.k None none))
