@@ -1,5 +1,5 @@
 -- What a library of files and a sink of bytes answer, and when.
-use Rattle.std.specs.Prelude.{ℕ, ◌≤◌, ◌≡◌, ◌⊎◌, List, [], ◌∷◌, ◌++◌, Option, None, IfSome, IsSomeAnd}
+use Rattle.std.specs.Prelude.{ℕ, ◌+◌, ◌<◌, ◌≤◌, ◌≡◌, ◌⊎◌, List, [], ◌∷◌, ◌++◌, length, Option, None, IfSome, IsSomeAnd}
 use Rattle.mse_outside.specs.Count.{next_count}
 use Rattle.mse_outside.specs.declared.library.Loaded.{Loaded}
 use Rattle.mse_outside.specs.declared.library.Loaded.TheVariants.{Done as LoadDone, NoFile, Failed as LoadFailed, OutOfMemory as LoadOutOfMemory}
@@ -23,6 +23,11 @@ abbrev pub HasFrontAppended : List ℕ → List ℕ → List ℕ → Type 0
 HasFrontAppended bytes old new =
     (front : List ℕ) × (rest : List ℕ) × (bytes ≡ front ++ rest) × (new ≡ old ++ front)
 
+-- a front part of the bytes was appended, and not all of them, unless there are none
+abbrev pub HasPartAppended : List ℕ → List ℕ → List ℕ → Type 0
+HasPartAppended bytes old new =
+    HasFrontAppended bytes old new × (0 < length bytes → length new < length old + length bytes)
+
 -- what the answer to a load says of the file in a told table, and of the buffer
 abbrev pub IsLoadEffect : Option (List ℕ) → List ℕ → List ℕ → Loaded → Type 0
 IsLoadEffect file old new LoadDone = IsSomeAnd file (λ bytes. new ≡ old ++ bytes)
@@ -42,7 +47,7 @@ sink_view bytes puts = record { bytes = bytes; puts = puts }
 abbrev pub IsPutAppended : List ℕ → List ℕ → List ℕ → Put → Type 0
 IsPutAppended bytes old new PutDone = new ≡ old ++ bytes
 IsPutAppended bytes old new PutFailed = HasFrontAppended bytes old new
-IsPutAppended bytes old new PutOutOfMemory = HasFrontAppended bytes old new
+IsPutAppended bytes old new PutOutOfMemory = HasPartAppended bytes old new
 
 -- what it says of the puts: this one came; one that found no memory may not be told
 abbrev pub IsPutListed : List ℕ → List (List ℕ) → List (List ℕ) → Put → Type 0

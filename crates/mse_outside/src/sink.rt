@@ -8,9 +8,10 @@ ghost use Rattle.mse_outside.specs.Outside.{HasRisen, IsPutEffect, SinkView};
 pub enum Put {
     /// All bytes were appended.
     Done,
-    /// The bytes were not all appended. The sink has counted this failure.
+    /// The sink could not finish the put, and has counted this failure. A front of the bytes was
+    /// appended, perhaps all.
     Failed,
-    /// There was no memory for the bytes.
+    /// There was no memory for the bytes: they were not all appended, unless there were none.
     OutOfMemory,
 }
 
@@ -23,7 +24,8 @@ pub trait Sink {
     /// How often a put has failed; each failed put is told. The count stands still at 2^64 - 1.
     ghost faults: { Self → ℕ };
 
-    /// Appends the bytes. After any answer but `Done`, a front part of them was appended.
+    /// Appends the bytes. After any answer but `Done`, a front part of them was appended; after
+    /// `OutOfMemory` not all of them, unless there were none.
     fn put(&mut self, bytes: &[u8]) -> Put
         ensures told { IsPutEffect bytes.now (written self.old) (written self.new) result }
         ensures no_fewer_faults { faults self.old ≤ faults self.new }

@@ -1,5 +1,5 @@
 -- When listeners call, event by event and turn by turn.
-use Rattle.std.proofs.Common.{◌≡◌, ◌≢◌, ◌∙◌, ◌<◌, ◌≤◌, ◌+◌, ◌==◌, ℕ, suc, Bool, true, false, cond, List, [], ◌∷◌, refl, sym, ap, subst, arith, inl, inr}
+use Rattle.std.proofs.Common.{◌≡◌, ◌≢◌, ◌∙◌, ◌<◌, ◌≤◌, ◌+◌, ℕ, suc, Bool, cond, List, [], ◌∷◌, refl, sym, ap, subst, arith, inl, inr}
 use Rattle.std.specs.Prelude.{◌⊎◌, if◌then◌else◌, Option, Some, None}
 use Rattle.std.proofs.lemmas.Bool.{eq-eqb, ne_eqb}
 use Rattle.std.proofs.lemmas.Bool.Decides.{eqb_tells}
@@ -10,7 +10,8 @@ use Rattle.mse_calls.specs.declared.entry.Entry.{Entry}
 use Rattle.mse_calls.specs.declared.entry.Entry.TheVariants.{Step, Script, Listener, Fired, Work, Element}
 use Rattle.listeners.specs.Dispatch.{AreCallsInTurn}
 use Rattle.listeners.specs.Notes.{call_count, is_call_of}
-use Rattle.script_run.specs.Turns.{AreAnswersToEvent, AreCallsBehindEach, AreCallsInPlace, AreInTurn, IsTurnToCall, ListenerTurn, calls_in_front, first_turn, turn_after}
+use Rattle.script_run.specs.Turns.{AreCallsBehindEach, AreCallsInPlace, calls_in_front}
+use Rattle.script_run.proofs.ListenerTurns.{AreInTurn, IsTurnToCall, ListenerTurn, first_turn, turn_after}
 
 -- ---- the number of a listener's calls
 

@@ -9,21 +9,15 @@ use Rattle.call_script.specs.declared.script.StepLine.{StepLine}
 use Rattle.call_script.specs.declared.script.StepLine.TheVariants as step
 use Rattle.listeners.specs.declared.listener.Note.{Note}
 use Rattle.listeners.specs.declared.event_dispatch.DispatchFault.{DispatchFault}
-use Rattle.listeners.specs.declared.event_dispatch.DispatchFault.TheVariants as fault
 use Rattle.listeners.specs.Dispatch.{AreCallsInTurn, IsFailedDispatch, dispatch_end}
 use Rattle.mse_engine.specs.State.{State}
 use Rattle.mse_engine.specs.Run.{entry_meaning, fire_entries, entries_if}
 use Rattle.mse_engine.specs.Work.{after_element_turn, after_work, fire_result}
-use Rattle.script_run.specs.declared.stop.Halt.{Halt}
-use Rattle.script_run.specs.declared.stop.Halt.TheVariants as halt
-use Rattle.script_run.specs.declared.stop.Stop.{Stop}
-use Rattle.script_run.specs.declared.stop.Stop.TheVariants.{Halted, CallBudget, TaskBudget}
 use Rattle.script_run.specs.DrainSteps.{AreInDrainOrder}
 use Rattle.script_run.specs.Lines.{IsLineFront, own_of}
-use Rattle.script_run.specs.PlayedParts.{IsDispatchCut, IsHeardUpTo, IsOverLimit}
+use Rattle.script_run.specs.PlayedParts.{IsDispatchCut}
 use Rattle.script_run.specs.NoteHistory.{IsAllHeard}
-use Rattle.script_run.specs.Turns.{AreInTurn, CallsLeft, HasCallsLeft, HasCallsLeftInLine, steps_in}
-use Rattle.script_run.proofs.JournalNotes.{cut_then}
+use Rattle.script_run.specs.Turns.{CallsLeft, HasCallsLeft, HasCallsLeftInLine, steps_in}
 
 -- ---- a dispatch that was cut
 
@@ -43,25 +37,6 @@ cut_of calls_left f event calls left n0 n1 turns left_is count heard p = record 
   count = count;
   end = p;
 }
-
--- ---- behind other entries
-
--- what is left behind a part is left behind the whole, by `more`
-pub over_then : (part whole : CallsLeft) (stop : Stop) (count : ℕ) (xs ys : List Entry) (n0 n1 n2 : List (List Note)) → ((left : ℕ) → part ys left → whole (xs ++ ys) left)
-    → IsAllHeard xs n0 n1 → AreInTurn count None ys → IsOverLimit part stop ys n1 n2 → IsOverLimit whole stop (xs ++ ys) n0 n2
-over_then part whole (CallBudget k) count xs ys n0 n1 n2 more p turns q = cut_then part whole (fault.CallBudget k) count xs ys n0 n1 n2 more p q turns
-over_then part whole TaskBudget count xs ys n0 n1 n2 more p turns q = cut_then part whole fault.TaskBudget count xs ys n0 n1 n2 more p q turns
-over_then part whole (Halted h) count xs ys n0 n1 n2 more p turns q = absurd q
-
--- each heard each event, where memory or the sink was wanting
-pub heard_to_all : (calls_left : CallsLeft) (h : Halt) (es : List Entry) (n0 n1 : List (List Note)) → IsAllHeard es n0 n1 → IsHeardUpTo calls_left h es n0 n1
-heard_to_all calls_left halt.Memory es n0 n1 p = inl p
-heard_to_all calls_left halt.Write es n0 n1 p = inl p
-
--- or the dispatch of the last ended at a limit
-pub heard_to_limit : (calls_left : CallsLeft) (stop : Stop) (h : Halt) (es : List Entry) (n0 n1 : List (List Note)) → IsOverLimit calls_left stop es n0 n1 → IsHeardUpTo calls_left h es n0 n1
-heard_to_limit calls_left stop halt.Memory es n0 n1 p = inr (inr (stop, p))
-heard_to_limit calls_left stop halt.Write es n0 n1 p = inr (stop, p)
 
 -- ---- lines
 

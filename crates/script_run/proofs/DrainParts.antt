@@ -22,9 +22,10 @@ use Rattle.listeners.specs.Views.{RunView}
 use Rattle.script_run.specs.RunParts.{EntryRelation}
 use Rattle.script_run.specs.PlayedParts.{IsSilentDrain, IsPlayedInLine, IsPlayedInLineUpTo, IsOwnStep, IsOwnStepIf}
 use Rattle.script_run.specs.RunStates.{RunState, run_at}
-use Rattle.script_run.specs.Turns.{AreInTurn}
+use Rattle.script_run.specs.Turns.{AreCallsInPlace}
 use Rattle.script_run.proofs.PutLines.{wrote_none}
 use Rattle.script_run.proofs.ListenerTurns.{calls_in-append}
+use Rattle.script_run.proofs.CallsInRow.{silent_in_place}
 use Rattle.script_run.proofs.JournalNotes.{heard_silence}
 use Rattle.script_run.proofs.FiredEvents.{fire_in_order}
 use Rattle.script_run.proofs.FollowedLines.{order_then}
@@ -34,14 +35,14 @@ use Rattle.script_run.proofs.WorkLeft.{due_turns, running_works, same_running, t
 -- ---- an event
 
 pub fire_ran_order : (blobs : List (List ℕ)) (a b : RunState) → IsPlayedInLine blobs (λ st part. IsLineEntries blobs st Fire part) a b → IsPlayedInLine blobs (AreInDrainOrder blobs) a b
-fire_ran_order blobs a b p = ran_as blobs (λ st part. IsLineEntries blobs st Fire part) (AreInDrainOrder blobs) a b p (λ st es h goes turns d. fire_in_order blobs (length a.notes) st es turns d)
+fire_ran_order blobs a b p = ran_as blobs (λ st part. IsLineEntries blobs st Fire part) (AreInDrainOrder blobs) a b p (λ st es h goes calls d. fire_in_order blobs (length a.notes) st es calls d)
 
-begins_order : (blobs : List (List ℕ)) (count : ℕ) (st : State) (es : List Entry) → AreInTurn count None es → IsLineFront blobs st Fire es → AreInDrainOrder blobs st es
-begins_order blobs count st es turns (inl e) = rw e tt
-begins_order blobs count st es turns (inr d) = fire_in_order blobs count st es turns d
+begins_order : (blobs : List (List ℕ)) (count : ℕ) (st : State) (es : List Entry) → AreCallsInPlace count es → IsLineFront blobs st Fire es → AreInDrainOrder blobs st es
+begins_order blobs count st es calls (inl e) = rw e tt
+begins_order blobs count st es calls (inr d) = fire_in_order blobs count st es calls d
 
 pub fire_stop_order : (blobs : List (List ℕ)) (stop : Stop) (a b : RunState) → IsPlayedInLineUpTo blobs (λ st part. IsLineFront blobs st Fire part) stop a b → IsPlayedInLineUpTo blobs (AreInDrainOrder blobs) stop a b
-fire_stop_order blobs stop a b p = stop_as blobs (λ st part. IsLineFront blobs st Fire part) (AreInDrainOrder blobs) stop a b p (λ st es h goes turns d. begins_order blobs (length a.notes) st es turns d)
+fire_stop_order blobs stop a b p = stop_as blobs (λ st part. IsLineFront blobs st Fire part) (AreInDrainOrder blobs) stop a b p (λ st es h goes calls d. begins_order blobs (length a.notes) st es calls d)
 
 -- ---- one part after another
 
@@ -61,7 +62,7 @@ order_none blobs a = ran_none blobs (AreInDrainOrder blobs) a (λ st h. tt)
 pub drain_of : (blobs : List (List ℕ)) (a b : RunState) → IsPlayedInLine blobs (AreInDrainOrder blobs) a b → ((st : State) → Stands b.run.engine st → IsAtRest st)
     → IsPlayedInLine blobs (λ st part. IsLineEntries blobs st Drain part) a b
 drain_of blobs a b p rest = ran_as blobs (AreInDrainOrder blobs) (λ st part. IsLineEntries blobs st Drain part) a b p
-    (λ st es h goes turns d. record { order = d; end = rest (after_entries blobs st es) (goes.stands st h) })
+    (λ st es h goes calls d. record { order = d; end = rest (after_entries blobs st es) (goes.stands st h) })
 
 -- ---- a step of work, and a turn
 
@@ -71,7 +72,7 @@ work_ran blobs does k a b t n holds p = record {
   played = record {
     entries = Work k ∷ [];
     grew = record { grew = p.grew; goes = p.goes; holds = holds };
-    turns = tt;
+    calls = silent_in_place (length n) (Work k ∷ []) refl;
     wrote = wrote_none t;
     heard = heard_silence (Work k ∷ []) n (λ w. refl);
   };
@@ -84,7 +85,7 @@ turn_ran blobs does a b t n holds p = record {
   played = record {
     entries = Element ∷ [];
     grew = record { grew = p.grew; goes = p.goes; holds = holds };
-    turns = tt;
+    calls = silent_in_place (length n) (Element ∷ []) refl;
     wrote = wrote_none t;
     heard = heard_silence (Element ∷ []) n (λ w. refl);
   };

@@ -1,8 +1,6 @@
 -- An event that is fired and told to the listeners.
-use Rattle.std.proofs.Common.{◌≡◌, ◌<◌, ◌≤◌, ◌+◌, ℕ, suc, List, [], ◌∷◌, ◌++◌, length, refl, sym, ◌∙◌, ap, append_assoc, arith, subst, inl, inr, drop}
+use Rattle.std.proofs.Common.{◌≡◌, ◌≤◌, ◌+◌, ℕ, suc, List, [], ◌∷◌, ◌++◌, length, refl, sym, ◌∙◌, ap, append_assoc, arith, subst, inr, drop}
 use Rattle.std.specs.Prelude.{Option, Some, None, Result, Ok, Err, option_map, slice_get}
-use Rattle.mse_calls.specs.declared.answers.Answer.{Answer}
-use Rattle.mse_calls.specs.declared.calls.Call.{Call}
 use Rattle.std.proofs.lemmas.List.{append-nil}
 use Rattle.std.proofs.Math.Seq.{drop-append_seam}
 use Rattle.mse_calls.specs.declared.events.Event.{Event}
@@ -22,23 +20,21 @@ use Rattle.mse_engine.specs.Work.{fire_result, without_first}
 use Rattle.mse_engine.specs.Transitions.{IsTransition}
 use Rattle.mse_engine.proofs.Transitions.{goes_then}
 use Rattle.call_script.specs.declared.script.StepLine.TheVariants.{Fire}
-use Rattle.script_run.specs.declared.stop.Halt.{Halt}
-use Rattle.script_run.specs.declared.stop.Halt.TheVariants as halt
-use Rattle.script_run.specs.declared.stop.Stop.TheVariants.{Halted}
+use Rattle.script_run.specs.declared.stop.Stop.{Stop}
+use Rattle.script_run.specs.declared.stop.Stop.TheVariants.{Memory, Write}
 use Rattle.script_run.specs.DrainSteps.{AreInDrainOrder, HasNoEvent}
 use Rattle.script_run.specs.Lines.{IsLineFront, IsLineEntries, own_of}
 use Rattle.script_run.specs.RunParts.{EntryRelation}
-use Rattle.script_run.specs.PlayedParts.{IsDispatchCut, HasGrown, IsHeardUpTo, IsOverLimit, IsPlayedInLine, IsPlayedInLineUpTo, IsOwnStep, IsStoppedBy, stop_of}
+use Rattle.script_run.specs.PlayedParts.{IsDispatchCut, HasGrown, IsHeardUpTo, IsPlayedInLine, IsPlayedInLineUpTo, IsOwnStep, IsWrittenToLastStep, IsWrittenUpTo, stop_of}
 use Rattle.script_run.specs.RunStates.{run_at}
 use Rattle.script_run.specs.NoteHistory.{IsAllHeard, note_history, entries_until_event}
 use Rattle.script_run.specs.Text.{lines_of}
-use Rattle.script_run.specs.Turns.{AreAnswersToEvent, AreCallsBehindEach, AreCallsInPlace, AreInTurn, CallsLeft, HasCallsLeft, calls_in, calls_in_front}
-use Rattle.script_run.specs.Writes.{IsWritten, IsFrontWritten}
-use Rattle.script_run.proofs.CallsInPlace.{in_turn}
+use Rattle.script_run.specs.Turns.{AreAnswersToEvent, AreCallsBehindEach, AreCallsInPlace, HasCallsLeft, calls_in, calls_in_front}
+use Rattle.script_run.specs.Writes.{IsWritten, IsFrontWritten, IsShortOf}
 use Rattle.script_run.proofs.RunSteps.{fired_one}
 use Rattle.script_run.proofs.JournalNotes.{heard_none}
 use Rattle.script_run.proofs.PutLines.{front_none}
-use Rattle.script_run.proofs.CutDispatches.{cut_of, heard_to_all, heard_to_limit}
+use Rattle.script_run.proofs.CutDispatches.{cut_of}
 use Rattle.script_run.proofs.PartsInRow.{last_alone}
 
 -- entries that are calls of listeners
@@ -131,9 +127,9 @@ fired_left blobs event a b c n0 n1 result step d =
     let made : b.left ≡ c.left + length d.entries = d.calls.left in
     omega (arith, number, step.left, made)
 
-fired_turns : (blobs : List (List ℕ)) (event : Event) (b c : RunView) (n0 n1 : List (List Note)) (result : Result (Unit {0}) DispatchFault)
-    → (d : IsDispatch blobs event (dispatch_view b n0) (dispatch_view c n1) result) → AreInTurn (length n0) None (Fired event ∷ d.entries)
-fired_turns blobs event b c n0 n1 result d = in_turn (length n0) (Fired event ∷ d.entries) (event_answered event (length n0) d.entries d.in_turn d.few)
+fired_calls : (blobs : List (List ℕ)) (event : Event) (b c : RunView) (n0 n1 : List (List Note)) (result : Result (Unit {0}) DispatchFault)
+    → (d : IsDispatch blobs event (dispatch_view b n0) (dispatch_view c n1) result) → AreCallsInPlace (length n0) (Fired event ∷ d.entries)
+fired_calls blobs event b c n0 n1 result d = event_answered event (length n0) d.entries d.in_turn d.few
 
 fired_lines : (event : Event) (j0 j1 j2 es : List Entry) → j1 ≡ j0 ++ Fired event ∷ [] → j2 ≡ j1 ++ es → drop (length j0) j2 ≡ Fired event ∷ es
 fired_lines event j0 j1 j2 es p q = rw (fired_grew event j0 j1 j2 es p q) (drop-append_seam j0 (Fired event ∷ es))
@@ -159,7 +155,7 @@ fired_ran blobs event a b c t0 t1 n0 n1 step d same wrote =
       played = record {
         entries = Fired event ∷ d.entries;
         grew = fired_entries blobs (λ st part. IsLineEntries blobs st Fire part) event a b c n0 n1 (Ok tt) (λ st part h. h) step d;
-        turns = fired_turns blobs event b c n0 n1 (Ok tt) d;
+        calls = fired_calls blobs event b c n0 n1 (Ok tt) d;
         wrote = rw lines at wrote;
         heard = heard_at blobs event b c n0 n1 d same;
       };
@@ -173,61 +169,85 @@ cut_at : (blobs : List (List ℕ)) (event : Event) (a b c : RunView) (n0 n1 : Li
 cut_at blobs event a b c n0 n1 f step d same =
     cut_of (HasCallsLeft a.left) f event d.entries c.left n0 n1 d.in_turn (fired_left blobs event a b c n0 n1 (Err f) step d) same (heard_none n0) d.outcome
 
--- it was cut by a limit
-fired_over : (blobs : List (List ℕ)) (event : Event) (f : DispatchFault) (a b c : RunView) (n0 n1 : List (List Note)) → ¬ (f ≡ fault.OutOfMemory)
-    → IsOwnStep blobs (Fired event ∷ []) a b → (d : IsDispatch blobs event (dispatch_view b n0) (dispatch_view c n1) (Err f)) → length n1 ≡ length n0
-    → IsOverLimit (HasCallsLeft a.left) (stop_of f) (Fired event ∷ d.entries) n0 n1
-fired_over blobs event fault.OutOfMemory a b c n0 n1 not step d same = absurd (not refl)
-fired_over blobs event (fault.CallBudget k) a b c n0 n1 not step d same = cut_at blobs event a b c n0 n1 (fault.CallBudget k) step d same
-fired_over blobs event fault.TaskBudget a b c n0 n1 not step d same = cut_at blobs event a b c n0 n1 fault.TaskBudget step d same
+-- the fault with which it ended, if it did
+abbrev fault_of : Result (Unit {0}) DispatchFault → Option DispatchFault
+fault_of (Ok u) = None
+fault_of (Err f) = Some f
 
-heard_to : (blobs : List (List ℕ)) (event : Event) (h : Halt) (a b c : RunView) (n0 n1 : List (List Note)) (result : Result (Unit {0}) DispatchFault)
-    → ¬ (result ≡ Err fault.OutOfMemory) → IsOwnStep blobs (Fired event ∷ []) a b
-    → (d : IsDispatch blobs event (dispatch_view b n0) (dispatch_view c n1) result) → length n1 ≡ length n0
-    → IsHeardUpTo (HasCallsLeft a.left) h (Fired event ∷ d.entries) n0 n1
-heard_to blobs event h a b c n0 n1 (Ok u) not step d same = heard_to_all (HasCallsLeft a.left) h (Fired event ∷ d.entries) n0 n1 (heard_at blobs event b c n0 n1 d same)
-heard_to blobs event h a b c n0 n1 (Err f) not step d same =
-    heard_to_limit (HasCallsLeft a.left) (stop_of f) h (Fired event ∷ d.entries) n0 n1 (fired_over blobs event f a b c n0 n1 (λ e. not (ap Err e)) step d same)
+heard_to : (blobs : List (List ℕ)) (event : Event) (a b c : RunView) (n0 n1 : List (List Note)) (result : Result (Unit {0}) DispatchFault)
+    → IsOwnStep blobs (Fired event ∷ []) a b → (d : IsDispatch blobs event (dispatch_view b n0) (dispatch_view c n1) result) → length n1 ≡ length n0
+    → IsHeardUpTo (HasCallsLeft a.left) (fault_of result) (Fired event ∷ d.entries) n0 n1
+heard_to blobs event a b c n0 n1 (Ok u) step d same = heard_at blobs event b c n0 n1 d same
+heard_to blobs event a b c n0 n1 (Err f) step d same = cut_at blobs event a b c n0 n1 f step d same
 
 one_event : (event : Event) (high : ℕ) (es : List Entry) → AreCallsInTurn 0 high es → own_of (Fired event ∷ es) ≡ Fired event ∷ []
 one_event event high es calls = ap (λ (x : List Entry). Fired event ∷ x) (calls_own 0 high es calls)
 
--- the lines were not all written
-pub fired_half : (blobs : List (List ℕ)) (event : Event) (h : Halt) (a b c : RunView) (t0 t1 : SinkView) (n0 n1 : List (List Note)) (result : Result (Unit {0}) DispatchFault)
-    → ¬ (result ≡ Err fault.OutOfMemory) → IsOwnStep blobs (Fired event ∷ []) a b
-    → IsDispatch blobs event (dispatch_view b n0) (dispatch_view c n1) result → length n1 ≡ length n0
-    → IsFrontWritten (lines_of (drop (length a.entries) c.entries)) t0 t1 → IsPlayedInLineUpTo blobs (λ st part. IsLineFront blobs st Fire part) (Halted h) (run_at a t0 n0) (run_at c t1 n1)
-fired_half blobs event h a b c t0 t1 n0 n1 result not step d same wrote =
-    let lines : drop (length a.entries) c.entries ≡ Fired event ∷ d.entries = fired_lines event a.entries b.entries c.entries d.entries step.grew d.calls.journal in
-    record {
-      played = record {
-        entries = Fired event ∷ d.entries;
-        grew = fired_entries blobs (λ st part. IsLineFront blobs st Fire part) event a b c n0 n1 result (λ st part p. inr p) step d;
-        turns = fired_turns blobs event b c n0 n1 result d;
-        stopped = (last_alone (Fired event ∷ d.entries) t0 t1 (one_event event (length n0) d.entries d.in_turn) (rw lines at wrote), heard_to blobs event h a b c n0 n1 result not step d same);
-      };
-      left = fired_left blobs event a b c n0 n1 result step d;
-    }
+-- ---- it stopped behind the event
 
--- memory was wanting in the dispatch, and none of its lines was written
-pub fired_short : (blobs : List (List ℕ)) (event : Event) (a b c : RunView) (t : SinkView) (n0 n1 : List (List Note))
-    → IsOwnStep blobs (Fired event ∷ []) a b → IsDispatch blobs event (dispatch_view b n0) (dispatch_view c n1) (Err fault.OutOfMemory)
-    → length n1 ≡ length n0 → IsPlayedInLineUpTo blobs (λ st part. IsLineFront blobs st Fire part) (Halted halt.Memory) (run_at a t n0) (run_at c t n1)
-fired_short blobs event a b c t n0 n1 step d same = record {
+fired_up_to : (blobs : List (List ℕ)) (event : Event) (stop : Stop) (a b c : RunView) (t0 t1 : SinkView) (n0 n1 : List (List Note)) (result : Result (Unit {0}) DispatchFault)
+    → IsOwnStep blobs (Fired event ∷ []) a b → (d : IsDispatch blobs event (dispatch_view b n0) (dispatch_view c n1) result) → length n1 ≡ length n0
+    → IsWrittenUpTo stop (fault_of result) (Fired event ∷ d.entries) t0 t1 → IsPlayedInLineUpTo blobs (λ st part. IsLineFront blobs st Fire part) stop (run_at a t0 n0) (run_at c t1 n1)
+fired_up_to blobs event stop a b c t0 t1 n0 n1 result step d same wrote = record {
   played = record {
     entries = Fired event ∷ d.entries;
-    grew = fired_entries blobs (λ st part. IsLineFront blobs st Fire part) event a b c n0 n1 (Err fault.OutOfMemory) (λ st part p. inr p) step d;
-    turns = fired_turns blobs event b c n0 n1 (Err fault.OutOfMemory) d;
-    stopped = (last_alone (Fired event ∷ d.entries) t t (one_event event (length n0) d.entries d.in_turn) (front_none t (lines_of (Fired event ∷ d.entries))), inr (inl (cut_at blobs event a b c n0 n1 fault.OutOfMemory step d same)));
+    grew = fired_entries blobs (λ st part. IsLineFront blobs st Fire part) event a b c n0 n1 result (λ st part p. inr p) step d;
+    calls = fired_calls blobs event b c n0 n1 result d;
+    stopped = record { fault = fault_of result; heard = heard_to blobs event a b c n0 n1 result step d same; wrote = wrote };
   };
-  left = fired_left blobs event a b c n0 n1 (Err fault.OutOfMemory) step d;
+  left = fired_left blobs event a b c n0 n1 result step d;
 }
 
-stopped_by : (calls_left : CallsLeft) (f : DispatchFault) (es : List Entry) (a c : RunView) (t0 t1 : SinkView) (n0 n1 : List (List Note))
-    → IsWritten (lines_of es) t0 t1 → IsOverLimit calls_left (stop_of f) es n0 n1 → IsStoppedBy calls_left (stop_of f) es (run_at a t0 n0) (run_at c t1 n1)
-stopped_by calls_left fault.OutOfMemory es a c t0 t1 n0 n1 wrote over = absurd over
-stopped_by calls_left (fault.CallBudget k) es a c t0 t1 n0 n1 wrote over = (wrote, over)
-stopped_by calls_left fault.TaskBudget es a c t0 t1 n0 n1 wrote over = (wrote, over)
+-- a front of its lines was written
+last_event : (blobs : List (List ℕ)) (event : Event) (a b c : RunView) (t0 t1 : SinkView) (n0 n1 : List (List Note)) (result : Result (Unit {0}) DispatchFault)
+    → (d : IsDispatch blobs event (dispatch_view b n0) (dispatch_view c n1) result)
+    → IsFrontWritten (lines_of (Fired event ∷ d.entries)) t0 t1 → IsWrittenToLastStep (Fired event ∷ d.entries) t0 t1
+last_event blobs event a b c t0 t1 n0 n1 result d wrote = last_alone (Fired event ∷ d.entries) t0 t1 (one_event event (length n0) d.entries d.in_turn) wrote
+
+short_of : (es : List Entry) (t0 t1 : SinkView) (f : Option DispatchFault) → IsWrittenToLastStep es t0 t1 → IsShortOf (lines_of es) t0 t1 → IsWrittenUpTo Memory f es t0 t1
+short_of es t0 t1 None w s = w
+short_of es t0 t1 (Some fault.OutOfMemory) w s = w
+short_of es t0 t1 (Some (fault.CallBudget k)) w s = (w, s)
+short_of es t0 t1 (Some fault.TaskBudget) w s = (w, s)
+
+half_of : (es : List Entry) (t0 t1 : SinkView) (result : Result (Unit {0}) DispatchFault) → ¬ (result ≡ Err fault.OutOfMemory) → IsWrittenToLastStep es t0 t1 → IsWrittenUpTo Write (fault_of result) es t0 t1
+half_of es t0 t1 (Ok u) not w = w
+half_of es t0 t1 (Err fault.OutOfMemory) not w = absurd (not refl)
+half_of es t0 t1 (Err (fault.CallBudget k)) not w = w
+half_of es t0 t1 (Err fault.TaskBudget) not w = w
+
+-- there was no memory for its lines
+pub fired_short : (blobs : List (List ℕ)) (event : Event) (a b c : RunView) (t0 t1 : SinkView) (n0 n1 : List (List Note)) (result : Result (Unit {0}) DispatchFault)
+    → IsOwnStep blobs (Fired event ∷ []) a b → IsDispatch blobs event (dispatch_view b n0) (dispatch_view c n1) result → length n1 ≡ length n0
+    → IsFrontWritten (lines_of (drop (length a.entries) c.entries)) t0 t1 → IsShortOf (lines_of (drop (length a.entries) c.entries)) t0 t1
+    → IsPlayedInLineUpTo blobs (λ st part. IsLineFront blobs st Fire part) Memory (run_at a t0 n0) (run_at c t1 n1)
+fired_short blobs event a b c t0 t1 n0 n1 result step d same wrote short =
+    let lines : drop (length a.entries) c.entries ≡ Fired event ∷ d.entries = fired_lines event a.entries b.entries c.entries d.entries step.grew d.calls.journal in
+    fired_up_to blobs event Memory a b c t0 t1 n0 n1 result step d same
+    (short_of (Fired event ∷ d.entries) t0 t1 (fault_of result) (last_event blobs event a b c t0 t1 n0 n1 result d (rw lines at wrote)) (rw lines at short))
+
+-- the sink failed to take them
+pub fired_half : (blobs : List (List ℕ)) (event : Event) (a b c : RunView) (t0 t1 : SinkView) (n0 n1 : List (List Note)) (result : Result (Unit {0}) DispatchFault)
+    → ¬ (result ≡ Err fault.OutOfMemory) → IsOwnStep blobs (Fired event ∷ []) a b
+    → IsDispatch blobs event (dispatch_view b n0) (dispatch_view c n1) result → length n1 ≡ length n0
+    → IsFrontWritten (lines_of (drop (length a.entries) c.entries)) t0 t1 → IsPlayedInLineUpTo blobs (λ st part. IsLineFront blobs st Fire part) Write (run_at a t0 n0) (run_at c t1 n1)
+fired_half blobs event a b c t0 t1 n0 n1 result not step d same wrote =
+    let lines : drop (length a.entries) c.entries ≡ Fired event ∷ d.entries = fired_lines event a.entries b.entries c.entries d.entries step.grew d.calls.journal in
+    fired_up_to blobs event Write a b c t0 t1 n0 n1 result step d same
+    (half_of (Fired event ∷ d.entries) t0 t1 result not (last_event blobs event a b c t0 t1 n0 n1 result d (rw lines at wrote)))
+
+-- memory was wanting in the dispatch, and none of its lines was written
+pub fired_unheard : (blobs : List (List ℕ)) (event : Event) (a b c : RunView) (t : SinkView) (n0 n1 : List (List Note))
+    → IsOwnStep blobs (Fired event ∷ []) a b → IsDispatch blobs event (dispatch_view b n0) (dispatch_view c n1) (Err fault.OutOfMemory)
+    → length n1 ≡ length n0 → IsPlayedInLineUpTo blobs (λ st part. IsLineFront blobs st Fire part) Memory (run_at a t n0) (run_at c t n1)
+fired_unheard blobs event a b c t n0 n1 step d same =
+    fired_up_to blobs event Memory a b c t t n0 n1 (Err fault.OutOfMemory) step d same
+    (last_event blobs event a b c t t n0 n1 (Err fault.OutOfMemory) d (front_none t (lines_of (Fired event ∷ d.entries))))
+
+all_of : (f : DispatchFault) (es : List Entry) (t0 t1 : SinkView) → ¬ (f ≡ fault.OutOfMemory) → IsWritten (lines_of es) t0 t1 → IsWrittenUpTo (stop_of f) (Some f) es t0 t1
+all_of fault.OutOfMemory es t0 t1 not wrote = absurd (not refl)
+all_of (fault.CallBudget k) es t0 t1 not wrote = (refl, wrote)
+all_of fault.TaskBudget es t0 t1 not wrote = (refl, wrote)
 
 -- a limit ended the dispatch
 pub fired_stopped : (blobs : List (List ℕ)) (event : Event) (f : DispatchFault) (a b c : RunView) (t0 t1 : SinkView) (n0 n1 : List (List Note))
@@ -237,15 +257,7 @@ pub fired_stopped : (blobs : List (List ℕ)) (event : Event) (f : DispatchFault
     → IsPlayedInLineUpTo blobs (λ st part. IsLineFront blobs st Fire part) (stop_of f) (run_at a t0 n0) (run_at c t1 n1)
 fired_stopped blobs event f a b c t0 t1 n0 n1 not step d same wrote =
     let lines : drop (length a.entries) c.entries ≡ Fired event ∷ d.entries = fired_lines event a.entries b.entries c.entries d.entries step.grew d.calls.journal in
-    record {
-      played = record {
-        entries = Fired event ∷ d.entries;
-        grew = fired_entries blobs (λ st part. IsLineFront blobs st Fire part) event a b c n0 n1 (Err f) (λ st part p. inr p) step d;
-        turns = fired_turns blobs event b c n0 n1 (Err f) d;
-        stopped = stopped_by (HasCallsLeft a.left) f (Fired event ∷ d.entries) a c t0 t1 n0 n1 (rw lines at wrote) (fired_over blobs event f a b c n0 n1 not step d same);
-      };
-      left = fired_left blobs event a b c n0 n1 (Err f) step d;
-    }
+    fired_up_to blobs event (stop_of f) a b c t0 t1 n0 n1 (Err f) step d same (all_of f (Fired event ∷ d.entries) t0 t1 not (rw lines at wrote))
 
 -- where no listener called, the engine is as it was when the event was fired
 pub fired_alone : (blobs : List (List ℕ)) (event : Event) (b c : RunView) (n0 n1 : List (List Note)) (result : Result (Unit {0}) DispatchFault)
@@ -284,18 +296,21 @@ not_fired : (st : State) (first : Option Event) (entry : Entry) (es : List Entry
 not_fired st None entry es other e = cc
 not_fired st (Some x) entry es other e = other x (cc)
 
+no_first : {x : Entry} {es : List Entry} → ¬ (x ∷ es ≡ [])
+no_first e = cc
+
 -- it is what a drain does first
-pub fire_in_order : (blobs : List (List ℕ)) (count : ℕ) (st : State) (part : List Entry) → AreInTurn count None part → own_of part ≡ fire_entries (fire_result st) → AreInDrainOrder blobs st part
-fire_in_order blobs count st [] turns own = tt
-fire_in_order blobs count st (Fired event ∷ es) turns own = (
+pub fire_in_order : (blobs : List (List ℕ)) (count : ℕ) (st : State) (part : List Entry) → AreCallsInPlace count part → own_of part ≡ fire_entries (fire_result st) → AreInDrainOrder blobs st part
+fire_in_order blobs count st [] calls own = tt
+fire_in_order blobs count st (Fired event ∷ es) calls own = (
   first_fired st (slice_get st.element.queue 0) event (own_of es) own,
   silent_order blobs (entry_meaning blobs st (Fired event)).state es (rest_fired st (slice_get st.element.queue 0) event (own_of es) own),
 )
-fire_in_order blobs count st (Listener v c a ∷ es) turns own = absurd turns
-fire_in_order blobs count st (Step n ∷ es) turns own = absurd (not_fired st (slice_get st.element.queue 0) (Step n) (own_of es) (λ event e. cc) own)
-fire_in_order blobs count st (Script c a ∷ es) turns own = absurd (not_fired st (slice_get st.element.queue 0) (Script c a) (own_of es) (λ event e. cc) own)
-fire_in_order blobs count st (Work k ∷ es) turns own = absurd (not_fired st (slice_get st.element.queue 0) (Work k) (own_of es) (λ event e. cc) own)
-fire_in_order blobs count st (Element ∷ es) turns own = absurd (not_fired st (slice_get st.element.queue 0) Element (own_of es) (λ event e. cc) own)
+fire_in_order blobs count st (Listener v c a ∷ es) calls own = absurd (no_first calls.first)
+fire_in_order blobs count st (Step n ∷ es) calls own = absurd (not_fired st (slice_get st.element.queue 0) (Step n) (own_of es) (λ event e. cc) own)
+fire_in_order blobs count st (Script c a ∷ es) calls own = absurd (not_fired st (slice_get st.element.queue 0) (Script c a) (own_of es) (λ event e. cc) own)
+fire_in_order blobs count st (Work k ∷ es) calls own = absurd (not_fired st (slice_get st.element.queue 0) (Work k) (own_of es) (λ event e. cc) own)
+fire_in_order blobs count st (Element ∷ es) calls own = absurd (not_fired st (slice_get st.element.queue 0) Element (own_of es) (λ event e. cc) own)
 
 -- nothing is fired where no event waits
 nothing_by : (st : State) (q : List Event) → q ≡ [] → [] ≡ fired_by st (slice_get q 0)

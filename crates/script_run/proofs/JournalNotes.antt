@@ -1,6 +1,5 @@
 -- What a journal tells of listeners, one part after another.
 use Rattle.std.proofs.Common.{◌≡◌, ℕ, List, [], ◌∷◌, ◌++◌, refl, sym, ◌∙◌, ap, append_assoc, arith}
-use Rattle.std.specs.Prelude.{None}
 use Rattle.std.proofs.lemmas.List.{append-nil}
 use Rattle.mse_calls.specs.declared.entry.Entry.{Entry}
 use Rattle.mse_calls.specs.declared.entry.Entry.TheVariants.{Step, Script, Listener, Fired, Work, Element}
@@ -9,20 +8,10 @@ use Rattle.listeners.specs.declared.listener.Note.TheVariants.{Heard, Rested}
 use Rattle.listeners.specs.declared.event_dispatch.DispatchFault.{DispatchFault}
 use Rattle.listeners.specs.Notes.{call_notes, entry_notes, event_notes}
 use Rattle.listeners.specs.Dispatch.{notes_at}
-use Rattle.script_run.specs.Turns.{AreInTurn, CallsLeft}
+use Rattle.script_run.specs.Turns.{AreCallsInPlace, CallsLeft}
 use Rattle.script_run.specs.NoteHistory.{entries_until_event, note_history, IsAllHeard}
 use Rattle.script_run.specs.PlayedParts.{IsDispatchCut}
-use Rattle.script_run.proofs.ListenerTurns.{turns_front}
-
--- before the first event no listener calls
-pub fresh_turns : (count : ℕ) (es : List Entry) (w : ℕ) → AreInTurn count None es → call_notes w (entries_until_event es) ≡ []
-fresh_turns count [] w h = refl
-fresh_turns count (Fired event ∷ es) w h = refl
-fresh_turns count (Step n ∷ es) w h = fresh_turns count es w h
-fresh_turns count (Script call answer ∷ es) w h = fresh_turns count es w h
-fresh_turns count (Work k ∷ es) w h = fresh_turns count es w h
-fresh_turns count (Element ∷ es) w h = fresh_turns count es w h
-fresh_turns count (Listener v call answer ∷ es) w h = absurd h
+use Rattle.script_run.proofs.CallsInRow.{calls_before, fresh_calls}
 
 -- the calls before the next event, of a journal that goes on with none
 until-append : (xs ys : List Entry) (w : ℕ) → call_notes w (entries_until_event ys) ≡ [] → call_notes w (entries_until_event (xs ++ ys)) ≡ call_notes w (entries_until_event xs)
@@ -54,20 +43,20 @@ heard_none notes = record { count = refl; notes = λ w lt. sym (append-nil (note
 pub heard_silence : (es : List Entry) (notes : List (List Note)) → ((w : ℕ) → note_history w es ≡ []) → IsAllHeard es notes notes
 heard_silence es notes silent = record { count = refl; notes = λ w lt. rw (silent w) (sym (append-nil (notes_at notes w))) }
 
-pub heard_then : (count : ℕ) (xs ys : List Entry) (n0 n1 n2 : List (List Note)) → IsAllHeard xs n0 n1 → IsAllHeard ys n1 n2 → AreInTurn count None ys → IsAllHeard (xs ++ ys) n0 n2
-heard_then count xs ys n0 n1 n2 p q turns = record {
+pub heard_then : (count : ℕ) (xs ys : List Entry) (n0 n1 n2 : List (List Note)) → IsAllHeard xs n0 n1 → IsAllHeard ys n1 n2 → AreCallsInPlace count ys → IsAllHeard (xs ++ ys) n0 n2
+heard_then count xs ys n0 n1 n2 p q calls = record {
   count = q.count ∙ p.count;
   notes = λ w lt.
       let one = p.notes w lt in
       let two = q.notes w (omega (arith, lt, p.count)) in
       two ∙ ap (λ (x : List Note). x ++ note_history w ys) one ∙ append_assoc (notes_at n0 w) (note_history w xs) (note_history w ys)
-      ∙ ap (λ (x : List Note). notes_at n0 w ++ x) (sym (note_history-append xs ys w (fresh_turns count ys w turns)));
+      ∙ ap (λ (x : List Note). notes_at n0 w ++ x) (sym (note_history-append xs ys w (fresh_calls count ys w calls)));
 }
 
 -- a dispatch that was cut, behind others
 pub cut_then : (part whole : CallsLeft) (fault : DispatchFault) (count : ℕ) (xs ys : List Entry) (n0 n1 n2 : List (List Note)) → ((left : ℕ) → part ys left → whole (xs ++ ys) left)
-    → IsAllHeard xs n0 n1 → IsDispatchCut part fault ys n1 n2 → AreInTurn count None ys → IsDispatchCut whole fault (xs ++ ys) n0 n2
-cut_then part whole fault count xs ys n0 n1 n2 more p q turns = record {
+    → IsAllHeard xs n0 n1 → IsDispatchCut part fault ys n1 n2 → AreCallsInPlace count ys → IsDispatchCut whole fault (xs ++ ys) n0 n2
+cut_then part whole fault count xs ys n0 n1 n2 more p q calls = record {
   before = xs ++ q.before;
   event = q.event;
   calls = q.calls;
@@ -75,7 +64,7 @@ cut_then part whole fault count xs ys n0 n1 n2 more p q turns = record {
   middle = q.middle;
   entries_are = ap (λ (x : List Entry). xs ++ x) q.entries_are ∙ sym (append_assoc xs q.before (Fired q.event ∷ q.calls));
   left_is = more q.left q.left_is;
-  heard = heard_then count xs q.before n0 n1 q.middle p q.heard (turns_front count None q.before (Fired q.event ∷ q.calls) (rw q.entries_are at turns));
+  heard = heard_then count xs q.before n0 n1 q.middle p q.heard (calls_before count q.before (Fired q.event ∷ q.calls) refl (rw q.entries_are at calls));
   in_turn = q.in_turn;
   count = q.count;
   end = q.end;

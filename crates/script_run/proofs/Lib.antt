@@ -2,9 +2,12 @@ pub mod PutLines
 pub mod TextLines
 pub mod ListenerTurns
 pub mod CallsInPlace
+pub mod CallsInRow
 pub mod JournalNotes
+pub mod KeptListeners
 pub mod CutDispatches
 pub mod PartsInRow
+pub mod StoppedParts
 pub mod FollowedLines
 pub mod LineFronts
 pub mod RunSteps

@@ -1,9 +1,43 @@
--- Turns of listeners, one part of a journal after another.
-use Rattle.std.proofs.Common.{◌≡◌, ◌+◌, ℕ, List, [], ◌∷◌, ◌++◌, arith}
-use Rattle.std.specs.Prelude.{Option, Some, None}
+-- Calls of listeners turn by turn, one part of a journal after another.
+use Rattle.std.proofs.Common.{◌≡◌, ◌<◌, ◌+◌, ◌==◌, ℕ, suc, List, [], ◌∷◌, ◌++◌, arith}
+use Rattle.std.specs.Prelude.{◌⊎◌, if◌then◌else◌, Option, Some, None, ⊤}
 use Rattle.mse_calls.specs.declared.entry.Entry.{Entry}
 use Rattle.mse_calls.specs.declared.entry.Entry.TheVariants.{Step, Script, Listener, Fired, Work, Element}
-use Rattle.script_run.specs.Turns.{AreInTurn, ListenerTurn, turn_after, calls_in}
+use Rattle.script_run.specs.Turns.{calls_in, most_calls}
+
+-- ---- a device: `AreCallsInPlace` by the loop that listeners are served in
+
+-- the listener whose turn it is to call after an event, and how many calls it has made
+pub record ListenerTurn : Type 0 where
+  pub listener : ℕ
+  pub made : ℕ
+
+-- listener 0 hears an event first
+abbrev pub first_turn : ListenerTurn
+first_turn = record { listener = 0; made = 0 }
+
+-- it may call: it is its turn and it has a call left, or it comes behind the one whose turn it was
+abbrev pub IsTurnToCall : ListenerTurn → ℕ → Type 0
+IsTurnToCall turn w = (turn.listener < w) ⊎ ((turn.listener ≡ w) × (turn.made < most_calls))
+
+abbrev pub turn_after : ListenerTurn → ℕ → ListenerTurn
+turn_after turn w =
+    if turn.listener == w then record { listener = w; made = suc turn.made }
+    else record { listener = w; made = 1 }
+
+-- Each call comes in its turn. Without a turn no event was fired since the last thing that was done.
+abbrev pub AreInTurn : ℕ → Option ListenerTurn → List Entry → Type 0
+AreInTurn count turn [] = ⊤
+AreInTurn count turn (Fired event ∷ entries) = AreInTurn count (Some first_turn) entries
+AreInTurn count None (Listener w call answer ∷ entries) = ⊥
+AreInTurn count (Some turn) (Listener w call answer ∷ entries) =
+    (w < count) × IsTurnToCall turn w × AreInTurn count (Some (turn_after turn w)) entries
+AreInTurn count turn (Script call answer ∷ entries) = AreInTurn count None entries
+AreInTurn count turn (Step n ∷ entries) = AreInTurn count None entries
+AreInTurn count turn (Work k ∷ entries) = AreInTurn count None entries
+AreInTurn count turn (Element ∷ entries) = AreInTurn count None entries
+
+-- ---- parts in a row
 
 -- what holds without a turn holds with one
 pub turns_any : (count : ℕ) (turn : Option ListenerTurn) (es : List Entry) → AreInTurn count None es → AreInTurn count turn es

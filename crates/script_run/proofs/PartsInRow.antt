@@ -1,6 +1,6 @@
 -- Parts of a run, one after another.
-use Rattle.std.proofs.Common.{◌≡◌, ◌+◌, ℕ, List, [], ◌++◌, length, refl, sym, ◌∙◌, ap, append_assoc, arith, inl, inr}
-use Rattle.std.specs.Prelude.{None}
+use Rattle.std.proofs.Common.{◌≡◌, ◌+◌, ℕ, List, [], ◌++◌, length, refl, sym, ◌∙◌, ap, append_assoc, arith}
+use Rattle.std.specs.Prelude.{Option, Some, None}
 use Rattle.std.proofs.lemmas.List.{append-nil}
 use Rattle.std.proofs.lemmas.List.Concat.{flat_map-append}
 use Rattle.mse_calls.specs.declared.entry.Entry.{Entry}
@@ -11,22 +11,22 @@ use Rattle.mse_engine.specs.Standing.{Stands}
 use Rattle.mse_engine.specs.Run.{after_entries}
 use Rattle.mse_engine.specs.Transitions.{IsTransition}
 use Rattle.mse_engine.proofs.Transitions.{goes_none, goes_then}
-use Rattle.script_run.specs.declared.stop.Halt.{Halt}
-use Rattle.script_run.specs.declared.stop.Halt.TheVariants as halt
+use Rattle.listeners.specs.declared.event_dispatch.DispatchFault.{DispatchFault}
+use Rattle.listeners.specs.declared.event_dispatch.DispatchFault.TheVariants as fault
 use Rattle.script_run.specs.declared.stop.Stop.{Stop}
-use Rattle.script_run.specs.declared.stop.Stop.TheVariants.{Halted, CallBudget, TaskBudget}
+use Rattle.script_run.specs.declared.stop.Stop.TheVariants.{Memory, Write, CallBudget, TaskBudget}
 use Rattle.listeners.specs.Views.{RunView}
 use Rattle.script_run.specs.RunParts.{EntryRelation}
-use Rattle.script_run.specs.PlayedParts.{HasGrown, IsPlayed, IsPlayedUpTo, IsPlayedInLine, IsPlayedInLineUpTo, IsStoppedBy, IsHeardUpTo, IsOneStepAtMost, IsWrittenToLastStep, part_front}
-use Rattle.script_run.specs.RunStates.{RunState}
+use Rattle.script_run.specs.PlayedParts.{HasGrown, IsPlayed, IsPlayedUpTo, IsPlayedInLine, IsPlayedInLineUpTo, IsStoppedBy, IsHeardUpTo, IsOneStepAtMost, IsWrittenToLastStep, IsWrittenUpTo, part_front}
+use Rattle.script_run.specs.RunStates.{OutsideView, RunState, outside_in}
 use Rattle.script_run.specs.NoteHistory.{IsAllHeard}
 use Rattle.script_run.specs.Text.{lines_of, lines_of_entry}
-use Rattle.script_run.specs.Turns.{AreInTurn, CallsLeft, HasCallsLeft, calls_in}
-use Rattle.script_run.specs.Writes.{IsFrontWritten, IsWritten}
-use Rattle.script_run.proofs.PutLines.{behind_more, front_none, wrote_more, wrote_none}
-use Rattle.script_run.proofs.ListenerTurns.{turns_then, calls_in-append}
+use Rattle.script_run.specs.Turns.{AreCallsInPlace, CallsLeft, HasCallsLeft, calls_in}
+use Rattle.script_run.specs.Writes.{IsFrontWritten, IsShortOf, IsWritten}
+use Rattle.script_run.proofs.PutLines.{behind_more, front_none, short_more, wrote_more, wrote_none}
+use Rattle.script_run.proofs.ListenerTurns.{calls_in-append}
+use Rattle.script_run.proofs.CallsInRow.{calls_then, nothing_in_place}
 use Rattle.script_run.proofs.JournalNotes.{heard_none, heard_then, cut_then}
-use Rattle.script_run.proofs.CutDispatches.{heard_to_all, over_then}
 
 -- one part after another is a third
 abbrev pub ArePartsInRow : List (List ℕ) → EntryRelation → EntryRelation → EntryRelation → Type 0
@@ -42,6 +42,9 @@ grew_then blobs one two both a b c xs ys joins p q = record {
 
 lines_then : (xs ys : List Entry) (t0 t1 t2 : SinkView) → IsWritten (lines_of xs) t0 t1 → IsWritten (lines_of ys) t1 t2 → IsWritten (lines_of (xs ++ ys)) t0 t2
 lines_then xs ys t0 t1 t2 p q = rw (flat_map-append lines_of_entry xs ys) (wrote_more (lines_of xs) (lines_of ys) t0 t1 t2 p q)
+
+short_then : (xs ys : List Entry) (t0 t1 t2 : SinkView) → IsWritten (lines_of xs) t0 t1 → IsShortOf (lines_of ys) t1 t2 → IsShortOf (lines_of (xs ++ ys)) t0 t2
+short_then xs ys t0 t1 t2 p q = rw (flat_map-append lines_of_entry xs ys) (short_more (lines_of xs) (lines_of ys) t0 t1 t2 p q)
 
 -- what is ahead of the written lines behind another part
 pub last_then : (xs ys : List Entry) (t0 t1 t2 : SinkView) → IsWritten (lines_of xs) t0 t1 → IsWrittenToLastStep ys t1 t2 → IsWrittenToLastStep (xs ++ ys) t0 t2
@@ -67,43 +70,47 @@ pub played_then : (blobs : List (List ℕ)) (one two both : EntryRelation) (a b 
 played_then blobs one two both a b c joins p q = record {
   entries = p.entries ++ q.entries;
   grew = grew_then blobs one two both a.run b.run c.run p.entries q.entries joins p.grew q.grew;
-  turns = turns_then (length a.notes) None p.entries q.entries p.turns (rw p.heard.count at q.turns);
+  calls = calls_then (length a.notes) p.entries q.entries p.calls (rw p.heard.count at q.calls);
   wrote = lines_then p.entries q.entries a.written b.written c.written p.wrote q.wrote;
-  heard = heard_then (length b.notes) p.entries q.entries a.notes b.notes c.notes p.heard q.heard q.turns;
+  heard = heard_then (length b.notes) p.entries q.entries a.notes b.notes c.notes p.heard q.heard q.calls;
 }
 
-heard_to_then : (part whole : CallsLeft) (h : Halt) (count : ℕ) (xs ys : List Entry) (n0 n1 n2 : List (List Note)) → ((left : ℕ) → part ys left → whole (xs ++ ys) left)
-    → IsAllHeard xs n0 n1 → AreInTurn count None ys → IsHeardUpTo part h ys n1 n2 → IsHeardUpTo whole h (xs ++ ys) n0 n2
-heard_to_then part whole halt.Memory count xs ys n0 n1 n2 more p turns (inl q) = inl (heard_then count xs ys n0 n1 n2 p q turns)
-heard_to_then part whole halt.Memory count xs ys n0 n1 n2 more p turns (inr (inl q)) = inr (inl (cut_then part whole _ count xs ys n0 n1 n2 more p q turns))
-heard_to_then part whole halt.Memory count xs ys n0 n1 n2 more p turns (inr (inr q)) = inr (inr (q.0, over_then part whole q.0 count xs ys n0 n1 n2 more p turns q.1))
-heard_to_then part whole halt.Write count xs ys n0 n1 n2 more p turns (inl q) = inl (heard_then count xs ys n0 n1 n2 p q turns)
-heard_to_then part whole halt.Write count xs ys n0 n1 n2 more p turns (inr q) = inr (q.0, over_then part whole q.0 count xs ys n0 n1 n2 more p turns q.1)
+heard_to_then : (part whole : CallsLeft) (f : Option DispatchFault) (count : ℕ) (xs ys : List Entry) (n0 n1 n2 : List (List Note)) → ((left : ℕ) → part ys left → whole (xs ++ ys) left)
+    → IsAllHeard xs n0 n1 → AreCallsInPlace count ys → IsHeardUpTo part f ys n1 n2 → IsHeardUpTo whole f (xs ++ ys) n0 n2
+heard_to_then part whole None count xs ys n0 n1 n2 more p calls q = heard_then count xs ys n0 n1 n2 p q calls
+heard_to_then part whole (Some f) count xs ys n0 n1 n2 more p calls q = cut_then part whole f count xs ys n0 n1 n2 more p q calls
+
+wrote_to_then : (stop : Stop) (f : Option DispatchFault) (xs ys : List Entry) (t0 t1 t2 : SinkView) → IsWritten (lines_of xs) t0 t1 → IsWrittenUpTo stop f ys t1 t2 → IsWrittenUpTo stop f (xs ++ ys) t0 t2
+wrote_to_then Memory None xs ys t0 t1 t2 w s = last_then xs ys t0 t1 t2 w s
+wrote_to_then Memory (Some fault.OutOfMemory) xs ys t0 t1 t2 w s = last_then xs ys t0 t1 t2 w s
+wrote_to_then Memory (Some (fault.CallBudget k)) xs ys t0 t1 t2 w s = (last_then xs ys t0 t1 t2 w s.0, short_then xs ys t0 t1 t2 w s.1)
+wrote_to_then Memory (Some fault.TaskBudget) xs ys t0 t1 t2 w s = (last_then xs ys t0 t1 t2 w s.0, short_then xs ys t0 t1 t2 w s.1)
+wrote_to_then Write None xs ys t0 t1 t2 w s = last_then xs ys t0 t1 t2 w s
+wrote_to_then Write (Some fault.OutOfMemory) xs ys t0 t1 t2 w s = absurd s
+wrote_to_then Write (Some (fault.CallBudget k)) xs ys t0 t1 t2 w s = last_then xs ys t0 t1 t2 w s
+wrote_to_then Write (Some fault.TaskBudget) xs ys t0 t1 t2 w s = last_then xs ys t0 t1 t2 w s
+wrote_to_then (CallBudget k) None xs ys t0 t1 t2 w s = absurd s
+wrote_to_then (CallBudget k) (Some f) xs ys t0 t1 t2 w s = (s.0, lines_then xs ys t0 t1 t2 w s.1)
+wrote_to_then TaskBudget None xs ys t0 t1 t2 w s = absurd s
+wrote_to_then TaskBudget (Some f) xs ys t0 t1 t2 w s = (s.0, lines_then xs ys t0 t1 t2 w s.1)
 
 -- a part stopped behind another; what is left behind the second is left behind both, by `more`
-pub stopped_then : (part whole : CallsLeft) (stop : Stop) (count : ℕ) (xs ys : List Entry) (a b c : RunState) → ((left : ℕ) → part ys left → whole (xs ++ ys) left)
-    → IsWritten (lines_of xs) a.written b.written → IsAllHeard xs a.notes b.notes → AreInTurn count None ys → IsStoppedBy part stop ys b c
+pub stopped_then : (part whole : CallsLeft) (stop : Stop) (count : ℕ) (xs ys : List Entry) (a b c : OutsideView) → ((left : ℕ) → part ys left → whole (xs ++ ys) left)
+    → IsWritten (lines_of xs) a.written b.written → IsAllHeard xs a.notes b.notes → AreCallsInPlace count ys → IsStoppedBy part stop ys b c
     → IsStoppedBy whole stop (xs ++ ys) a c
-stopped_then part whole (Halted h) count xs ys a b c more w p turns s = (
-  last_then xs ys a.written b.written c.written w s.0,
-  heard_to_then part whole h count xs ys a.notes b.notes c.notes more p turns s.1,
-)
-stopped_then part whole (CallBudget k) count xs ys a b c more w p turns s = (
-  lines_then xs ys a.written b.written c.written w s.0,
-  over_then part whole (CallBudget k) count xs ys a.notes b.notes c.notes more p turns s.1,
-)
-stopped_then part whole TaskBudget count xs ys a b c more w p turns s = (
-  lines_then xs ys a.written b.written c.written w s.0,
-  over_then part whole TaskBudget count xs ys a.notes b.notes c.notes more p turns s.1,
-)
+stopped_then part whole stop count xs ys a b c more w p calls s = record {
+  fault = s.fault;
+  heard = heard_to_then part whole s.fault count xs ys a.notes b.notes c.notes more p calls s.heard;
+  wrote = wrote_to_then stop s.fault xs ys a.written b.written c.written w s.wrote;
+}
 
 pub played_stop : (blobs : List (List ℕ)) (one two both : EntryRelation) (part whole : CallsLeft) (stop : Stop) (a b c : RunState) → ArePartsInRow blobs one two both
     → (p : IsPlayed blobs one a b) → ((ys : List Entry) (left : ℕ) → part ys left → whole (p.entries ++ ys) left) → IsPlayedUpTo blobs (part_front two part) stop b c → IsPlayedUpTo blobs (part_front both whole) stop a c
 played_stop blobs one two both part whole stop a b c joins p more q = record {
   entries = p.entries ++ q.entries;
   grew = grew_then blobs one two both a.run b.run c.run p.entries q.entries joins p.grew q.grew;
-  turns = turns_then (length a.notes) None p.entries q.entries p.turns (rw p.heard.count at q.turns);
-  stopped = stopped_then part whole stop (length b.notes) p.entries q.entries a b c (more q.entries) p.wrote p.heard q.turns q.stopped;
+  calls = calls_then (length a.notes) p.entries q.entries p.calls (rw p.heard.count at q.calls);
+  stopped = stopped_then part whole stop (length b.notes) p.entries q.entries (outside_in a) (outside_in b) (outside_in c) (more q.entries) p.wrote p.heard q.calls q.stopped;
 }
 
 left_then : (xs ys : List Entry) (l0 l1 l2 : ℕ) → l0 ≡ l1 + calls_in xs → l1 ≡ l2 + calls_in ys → l0 ≡ l2 + calls_in (xs ++ ys)
@@ -134,42 +141,61 @@ ran_none blobs does a holds = record {
   played = record {
     entries = [];
     grew = grew_none blobs does a.run holds;
-    turns = tt;
+    calls = nothing_in_place (length a.notes);
     wrote = wrote_none a.written;
     heard = heard_none a.notes;
   };
   left = omega arith;
 }
 
--- it stopped before anything was done
-pub played_none : (blobs : List (List ℕ)) (calls_left : CallsLeft) (begins : EntryRelation) (h : Halt) (a : RunState) → ((st : State) → Stands a.run.engine st → begins st [])
-    → IsPlayedUpTo blobs (part_front begins calls_left) (Halted h) a a
-played_none blobs calls_left begins h a holds = record {
-  entries = [];
-  grew = grew_none blobs begins a.run holds;
-  turns = tt;
-  stopped = (last_alone [] a.written a.written tt (front_none a.written []), heard_to_all calls_left h [] a.notes a.notes (heard_none a.notes));
+-- ---- memory or the sink was wanting
+
+-- so a part may stop where each event was heard
+abbrev pub IsWanting : Stop → Type 0
+IsWanting stop = (es : List Entry) (t0 t1 : SinkView) → IsWrittenToLastStep es t0 t1 → IsWrittenUpTo stop None es t0 t1
+
+pub memory_wanting : IsWanting Memory
+memory_wanting = λ es t0 t1 w. w
+
+pub sink_wanting : IsWanting Write
+sink_wanting = λ es t0 t1 w. w
+
+pub stopped_none : (calls_left : CallsLeft) (stop : Stop) (a : OutsideView) → IsWanting stop → IsStoppedBy calls_left stop [] a a
+stopped_none calls_left stop a wanting = record {
+  fault = None;
+  heard = heard_none a.notes;
+  wrote = wanting [] a.written a.written (last_alone [] a.written a.written tt (front_none a.written []));
 }
 
-pub halt_none : (blobs : List (List ℕ)) (begins : EntryRelation) (h : Halt) (a : RunState) → ((st : State) → Stands a.run.engine st → begins st []) → IsPlayedInLineUpTo blobs begins (Halted h) a a
+-- it stopped before anything was done
+pub played_none : (blobs : List (List ℕ)) (calls_left : CallsLeft) (begins : EntryRelation) (stop : Stop) (a : RunState) → IsWanting stop → ((st : State) → Stands a.run.engine st → begins st [])
+    → IsPlayedUpTo blobs (part_front begins calls_left) stop a a
+played_none blobs calls_left begins stop a wanting holds = record {
+  entries = [];
+  grew = grew_none blobs begins a.run holds;
+  calls = nothing_in_place (length a.notes);
+  stopped = stopped_none calls_left stop (outside_in a) wanting;
+}
+
+pub halt_none : (blobs : List (List ℕ)) (begins : EntryRelation) (stop : Stop) (a : RunState) → IsWanting stop → ((st : State) → Stands a.run.engine st → begins st []) → IsPlayedInLineUpTo blobs begins stop a a
 unfolding played_none
-halt_none blobs begins h a holds = record {
-  played = played_none blobs (HasCallsLeft a.run.left) begins h a holds;
+halt_none blobs begins stop a wanting holds = record {
+  played = played_none blobs (HasCallsLeft a.run.left) begins stop a wanting holds;
   left = omega arith;
 }
 
 -- what is done is also something else
 pub ran_as : (blobs : List (List ℕ)) (one two : EntryRelation) (a b : RunState) → IsPlayedInLine blobs one a b
-    → ((st : State) (es : List Entry) → Stands a.run.engine st → IsTransition blobs a.run.engine b.run.engine es → AreInTurn (length a.notes) None es → one st es → two st es) → IsPlayedInLine blobs two a b
+    → ((st : State) (es : List Entry) → Stands a.run.engine st → IsTransition blobs a.run.engine b.run.engine es → AreCallsInPlace (length a.notes) es → one st es → two st es) → IsPlayedInLine blobs two a b
 ran_as blobs one two a b p weaker = record {
   played = record {
     entries = p.played.entries;
     grew = record {
       grew = p.played.grew.grew;
       goes = p.played.grew.goes;
-      holds = λ st h. weaker st p.played.entries h p.played.grew.goes p.played.turns (p.played.grew.holds st h);
+      holds = λ st h. weaker st p.played.entries h p.played.grew.goes p.played.calls (p.played.grew.holds st h);
     };
-    turns = p.played.turns;
+    calls = p.played.calls;
     wrote = p.played.wrote;
     heard = p.played.heard;
   };
@@ -177,16 +203,16 @@ ran_as blobs one two a b p weaker = record {
 }
 
 pub stop_as : (blobs : List (List ℕ)) (one two : EntryRelation) (stop : Stop) (a b : RunState) → IsPlayedInLineUpTo blobs one stop a b
-    → ((st : State) (es : List Entry) → Stands a.run.engine st → IsTransition blobs a.run.engine b.run.engine es → AreInTurn (length a.notes) None es → one st es → two st es) → IsPlayedInLineUpTo blobs two stop a b
+    → ((st : State) (es : List Entry) → Stands a.run.engine st → IsTransition blobs a.run.engine b.run.engine es → AreCallsInPlace (length a.notes) es → one st es → two st es) → IsPlayedInLineUpTo blobs two stop a b
 stop_as blobs one two stop a b p weaker = record {
   played = record {
     entries = p.played.entries;
     grew = record {
       grew = p.played.grew.grew;
       goes = p.played.grew.goes;
-      holds = λ st h. weaker st p.played.entries h p.played.grew.goes p.played.turns (p.played.grew.holds st h);
+      holds = λ st h. weaker st p.played.entries h p.played.grew.goes p.played.calls (p.played.grew.holds st h);
     };
-    turns = p.played.turns;
+    calls = p.played.calls;
     stopped = p.played.stopped;
   };
   left = p.left;

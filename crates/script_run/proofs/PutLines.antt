@@ -1,6 +1,6 @@
 -- What a sink was given, by several puts.
-use Rattle.std.proofs.Common.{◌≡◌, ◌∙◌, ◌+◌, ◌⊎◌, ℕ, zero, suc, List, [], ◌∷◌, ◌++◌, drop, append_assoc, ap, subst, sym, refl, add-one, inl, inr}
-use Rattle.std.specs.Prelude.{IfSome, IsSomeAnd, Option, Some, None, OnErr, OnOk, slice_get}
+use Rattle.std.proofs.Common.{◌≡◌, ◌∙◌, ◌+◌, ◌<◌, ◌⊎◌, ℕ, zero, suc, List, [], ◌∷◌, ◌++◌, length, length-append, drop, append_assoc, ap, subst, sym, refl, add-one, arith, inl, inr}
+use Rattle.std.specs.Prelude.{IfSome, IsErrOf, Option, Some, None, OnErr, OnOk, slice_get}
 use Rattle.std.specs.List.{concat, flat_map}
 use Rattle.std.proofs.lemmas.List.{append-nil}
 use Rattle.mse_calls.specs.declared.entry.Entry.{Entry}
@@ -9,7 +9,8 @@ use Rattle.mse_outside.specs.Outside.{HasFrontAppended, IfTold, IsPutAppended, I
 use Rattle.mse_outside.specs.declared.sink.Put.{Put}
 use Rattle.mse_outside.specs.declared.sink.Put.TheVariants.{Done, Failed, OutOfMemory}
 use Rattle.script_run.specs.Text.{line_if_any, lines_of, lines_of_entry}
-use Rattle.script_run.specs.Writes.{IsFirstTried, IsFrontWritten, IsFrontWrittenBehind, IsPutTried, IsWritten, halt_of}
+use Rattle.script_run.specs.declared.stop.Halt.TheVariants.{Memory}
+use Rattle.script_run.specs.Writes.{IsFirstTried, IsFrontWritten, IsFrontWrittenBehind, IsPutTried, IsShortOf, IsWritten, halt_of}
 
 concat-append : (a b : List (List ℕ)) → concat (a ++ b) ≡ concat a ++ concat b
 concat-append [] b = refl
@@ -71,10 +72,15 @@ wrote_none told = record { bytes = told_none told.bytes; puts = told_none told.p
 tried_front : (bytes : List ℕ) (old new : SinkView) → IsPutTried bytes old new → IsFrontWritten (bytes ∷ []) old new
 tried_front bytes old new h = record { whole = []; rest = bytes ∷ []; lines_are = refl; middle = old; wrote = wrote_none old; tried = h }
 
+part_front : (bytes : List ℕ) (old new : Option (List ℕ)) → IfTold old new (λ before now. IsPutAppended bytes before now OutOfMemory) → IfTold old new (λ before now. HasFrontAppended bytes before now)
+part_front bytes None new h = tt
+part_front bytes (Some xs) None h = absurd h
+part_front bytes (Some xs) (Some ys) h = h.0
+
 pub put_err : (bytes : List ℕ) (old new : SinkView) (answer : Put) → IsPutEffect bytes old new answer → OnErr (halt_of answer) (IsFrontWritten (bytes ∷ []) old new)
 put_err bytes old new Done h = tt
 put_err bytes old new Failed h = tried_front bytes old new (record { front = h.appended; put = failed_put bytes old.puts new.puts h.listed })
-put_err bytes old new OutOfMemory h = tried_front bytes old new (record { front = h.appended; put = short_put bytes old.puts new.puts h.listed })
+put_err bytes old new OutOfMemory h = tried_front bytes old new (record { front = part_front bytes old.bytes new.bytes h.appended; put = short_put bytes old.puts new.puts h.listed })
 
 -- ---- several puts
 
@@ -142,6 +148,54 @@ behind_more a b c old mid new u v = record { middle = v.middle; wrote = wrote_mo
 pub behind_front : (a b : List (List ℕ)) (old new : SinkView) → IsFrontWrittenBehind a b old new → IsFrontWritten (a ++ b) old new
 behind_front a b old new v = front_more a b old v.middle new v.wrote v.front
 
+-- ---- fewer bytes than lines have
+
+concat-size : (a b : List (List ℕ)) → length (concat (a ++ b)) ≡ length (concat a) + length (concat b)
+concat-size a b = ap length (concat-append a b) ∙ length-append (concat a) (concat b)
+
+short_told : (a b : List (List ℕ)) (old mid new : Option (List ℕ)) → IfSome old (λ before. mid ≡ Some (before ++ concat a)) → IfTold mid new (λ before now. length now < length before + length (concat b))
+    → IfTold old new (λ before now. length now < length before + length (concat (a ++ b)))
+short_told a b None mid new w s = tt
+short_told a b (Some xs) None new w s = absurd cc
+short_told a b (Some xs) (Some ys) None w s = absurd s
+short_told a b (Some xs) (Some ys) (Some zs) w s =
+    let is : ys ≡ xs ++ concat a = cc in
+    omega (arith, s, ap length is, length-append xs (concat a), concat-size a b)
+
+-- behind lines that came
+pub short_more : (a b : List (List ℕ)) (old mid new : SinkView) → IsWritten a old mid → IsShortOf b mid new → IsShortOf (a ++ b) old new
+short_more a b old mid new w s = short_told a b old.bytes mid.bytes new.bytes w.bytes s
+
+first_told : (a b : List (List ℕ)) (old new : Option (List ℕ)) → IfTold old new (λ before now. length now < length before + length (concat a))
+    → IfTold old new (λ before now. length now < length before + length (concat (a ++ b)))
+first_told a b None new s = tt
+first_told a b (Some xs) None s = absurd s
+first_told a b (Some xs) (Some zs) s = omega (arith, s, concat-size a b)
+
+-- and before others
+pub short_first : (a b : List (List ℕ)) (old new : SinkView) → IsShortOf a old new → IsShortOf (a ++ b) old new
+short_first a b old new s = first_told a b old.bytes new.bytes s
+
+none_told : (lines : List (List ℕ)) (told : Option (List ℕ)) → 0 < length (concat lines) → IfTold told told (λ before now. length now < length before + length (concat lines))
+none_told lines None some = tt
+none_told lines (Some xs) some = omega (arith, some)
+
+-- nothing was put
+pub short_none : (told : SinkView) (lines : List (List ℕ)) → 0 < length (concat lines) → IsShortOf lines told told
+short_none told lines some = none_told lines told.bytes some
+
+part_short : (bytes : List ℕ) (old new : Option (List ℕ)) → 0 < length bytes → IfTold old new (λ before now. IsPutAppended bytes before now OutOfMemory)
+    → IfTold old new (λ before now. length now < length before + length (bytes ++ []))
+part_short bytes None new some h = tt
+part_short bytes (Some xs) None some h = absurd h
+part_short bytes (Some xs) (Some ys) some h = omega (arith, h.1 some, ap length (append-nil bytes))
+
+-- a put found no memory
+pub put_short : (bytes : List ℕ) (old new : SinkView) (answer : Put) → IsPutEffect bytes old new answer → IsErrOf (halt_of answer) Memory → 0 < length bytes → IsShortOf (bytes ∷ []) old new
+put_short bytes old new Done h e some = absurd (cc)
+put_short bytes old new Failed h e some = absurd (cc)
+put_short bytes old new OutOfMemory h e some = part_short bytes old.bytes new.bytes some h.appended
+
 -- ---- the lines of a text
 
 -- one more line was put
@@ -189,6 +243,14 @@ entry_failed es i entry all t0 t1 t2 is w p =
     let whole : all ≡ w.0 ++ (lines_of_entry entry ++ tail) = w.2 ∙ ap (λ (x : List Entry). w.0 ++ lines_of x) (drop_entry es i entry (sym is)) in
     subst (λ (t : List (List ℕ)). IsFrontWritten t t0 t2) (sym whole) (front_more w.0 (lines_of_entry entry ++ tail) t0 t1 t2 w.1 (front_first (lines_of_entry entry) tail t1 t2 p))
 
+-- it was not put whole
+pub entry_short : (es : List Entry) (i : ℕ) (entry : Entry) (all : List (List ℕ)) (t0 t1 t2 : SinkView) → Some entry ≡ slice_get es i
+    → ((front : List (List ℕ)) × IsWritten front t0 t1 × (all ≡ front ++ lines_of (drop i es))) → IsShortOf (lines_of_entry entry) t1 t2 → IsShortOf all t0 t2
+entry_short es i entry all t0 t1 t2 is w p =
+    let tail : List (List ℕ) = lines_of (drop (i + 1) es) in
+    let whole : all ≡ w.0 ++ (lines_of_entry entry ++ tail) = w.2 ∙ ap (λ (x : List Entry). w.0 ++ lines_of x) (drop_entry es i entry (sym is)) in
+    subst (λ (t : List (List ℕ)). IsShortOf t t0 t2) (sym whole) (short_more w.0 (lines_of_entry entry ++ tail) t0 t1 t2 w.1 (short_first (lines_of_entry entry) tail t1 t2 p))
+
 -- one behind the other they are the texts of the entries
 concat-line : (text : List ℕ) → concat (line_if_any text) ≡ text
 concat-line [] = refl
@@ -198,3 +260,8 @@ pub concat-entries : (es : List Entry) → concat (lines_of es) ≡ flat_map lin
 concat-entries [] = refl
 concat-entries (entry ∷ es) =
     concat-append (lines_of_entry entry) (lines_of es) ∙ ap (λ (t : List ℕ). t ++ concat (lines_of es)) (concat-line (line_text entry)) ∙ ap (λ (t : List ℕ). line_text entry ++ t) (concat-entries es)
+
+-- ---- an entry that prints a line
+
+pub entry_size : (entry : Entry) → 0 < length (line_text entry) → 0 < length (concat (lines_of_entry entry))
+entry_size entry some = omega (arith, some, ap length (concat-line (line_text entry)))

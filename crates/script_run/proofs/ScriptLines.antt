@@ -18,24 +18,24 @@ use Rattle.mse_engine.specs.Transitions.{IsTransition}
 use Rattle.mse_engine.proofs.Transitions.{goes_one, goes_then}
 use Rattle.script_run.specs.declared.stop.Halt.{Halt}
 use Rattle.script_run.specs.declared.stop.Stop.{Stop}
-use Rattle.script_run.specs.declared.stop.Stop.TheVariants.{Halted}
+use Rattle.script_run.specs.declared.stop.Stop.TheVariants.{Memory}
 use Rattle.script_run.specs.Follows.{IsNumberedLineBegun, IsNumberedLineDone}
 use Rattle.script_run.specs.Lines.{IsLineFront, IsLineEntries, Limits, play_inputs}
 use Rattle.listeners.specs.Views.{RunView}
 use Rattle.script_run.specs.RunParts.{line_part, numbered_line_part}
 use Rattle.script_run.specs.DrainSteps.{element_step, work_step}
 use Rattle.script_run.specs.PlayedParts.{IsCallHalted, IsCallMade, IsPlayed, IsPlayedUpTo, IsPlayedBy, IsPlayedInLine, IsPlayedInLineBy, IsPlayedInLineUpTo, IsOwnStep, IsOwnStepIf, part_front}
-use Rattle.script_run.specs.RunStates.{printed_run, run_at}
+use Rattle.script_run.specs.RunStates.{outside_view, printed_run, run_at}
 use Rattle.script_run.specs.Text.{lines_of}
 use Rattle.script_run.specs.NoteHistory.{IsAllHeard}
 use Rattle.script_run.specs.Turns.{AreCallsInPlace, HasCallsLeft, HasCallsLeftInLine, calls_in, steps_in}
 use Rattle.script_run.specs.Writes.{IsWritten, IsFrontWritten}
-use Rattle.script_run.proofs.CallsInPlace.{in_place}
+use Rattle.script_run.proofs.CallsInRow.{silent_in_place, step_in_place}
 use Rattle.script_run.proofs.RunSteps.{done_one}
 use Rattle.script_run.proofs.JournalNotes.{heard_silence}
 use Rattle.script_run.proofs.PutLines.{wrote_none}
-use Rattle.script_run.proofs.CutDispatches.{heard_to_all, left_in_line, no_step_in_line}
-use Rattle.script_run.proofs.PartsInRow.{halt_none, last_alone, played_none, ran_none, stopped_then}
+use Rattle.script_run.proofs.CutDispatches.{left_in_line, no_step_in_line}
+use Rattle.script_run.proofs.PartsInRow.{IsWanting, halt_none, last_alone, memory_wanting, played_none, ran_none, stopped_then}
 use Rattle.script_run.proofs.DrainParts.{turn_ran, work_ran}
 
 -- ---- a call
@@ -52,30 +52,31 @@ called_ran blobs call a b t0 t1 n p =
       played = record {
         entries = entry.Script call p.answer ∷ [];
         grew = record { grew = p.stepped.grew; goes = p.stepped.goes; holds = λ st h. call_does blobs call p.answer a.engine b.engine st h p.stepped.goes };
-        turns = tt;
+        calls = silent_in_place (length n) (entry.Script call p.answer ∷ []) refl;
         wrote = p.wrote;
         heard = heard_silence (entry.Script call p.answer ∷ []) n (λ w. refl);
       };
       left = omega (arith, left);
     }
 
-pub call_halted : (blobs : List (List ℕ)) (call : Call) (halt : Halt) (a b : RunView) (t0 t1 : SinkView) (n : List (List Note)) → IsCallHalted blobs call (printed_run a t0) (printed_run b t1)
-    → IsPlayedInLineUpTo blobs (λ st part. IsLineFront blobs st (step.Call call) part) (Halted halt) (run_at a t0 n) (run_at b t1 n)
-call_halted blobs call halt a b t0 t1 n (inl same) =
+pub call_halted : (blobs : List (List ℕ)) (call : Call) (stop : Stop) (a b : RunView) (t0 t1 : SinkView) (n : List (List Note)) → IsWanting stop → IsCallHalted blobs call (printed_run a t0) (printed_run b t1)
+    → IsPlayedInLineUpTo blobs (λ st part. IsLineFront blobs st (step.Call call) part) stop (run_at a t0 n) (run_at b t1 n)
+call_halted blobs call stop a b t0 t1 n wanting (inl same) =
     let run : b ≡ a = same.0 in
     let text : t1 ≡ t0 = same.1 in
-    rw (run, text) (halt_none blobs (λ st part. IsLineFront blobs st (step.Call call) part) halt (run_at a t0 n) (λ st h. inl refl))
-call_halted blobs call halt a b t0 t1 n (inr p) =
+    rw (run, text) (halt_none blobs (λ st part. IsLineFront blobs st (step.Call call) part) stop (run_at a t0 n) wanting (λ st h. inl refl))
+call_halted blobs call stop a b t0 t1 n wanting (inr p) =
     let left : b.left ≡ a.left = p.stepped.left in
     record {
       played = record {
         entries = entry.Script call p.answer ∷ [];
         grew = record { grew = p.stepped.grew; goes = p.stepped.goes; holds = λ st h. inr (call_does blobs call p.answer a.engine b.engine st h p.stepped.goes) };
-        turns = tt;
-        stopped = (
-          last_alone (entry.Script call p.answer ∷ []) t0 t1 refl p.wrote,
-          heard_to_all (HasCallsLeft a.left) halt (entry.Script call p.answer ∷ []) n n (heard_silence (entry.Script call p.answer ∷ []) n (λ w. refl)),
-        );
+        calls = silent_in_place (length n) (entry.Script call p.answer ∷ []) refl;
+        stopped = record {
+          fault = None;
+          heard = heard_silence (entry.Script call p.answer ∷ []) n (λ w. refl);
+          wrote = wanting (entry.Script call p.answer ∷ []) t0 t1 (last_alone (entry.Script call p.answer ∷ []) t0 t1 refl p.wrote);
+        };
       };
       left = omega (arith, left);
     }
@@ -115,7 +116,7 @@ pub line_played : (blobs : List (List ℕ)) (limits : Limits) (n : ℕ) (line : 
     → IsPlayed blobs (IsNumberedLineDone (play_inputs blobs limits) n line) (run_at a t0 n0) (run_at b t1 n1)
 line_played blobs limits n line a b t0 t1 n0 n1 sound count p =
     let few : calls_in p.played.entries ≤ limits.limit = within_limit limits.limit b.left (calls_in p.played.entries) p.left in
-    let calls : AreCallsInPlace limits.count p.played.entries = in_place limits.count p.played.entries (rw count p.played.turns) in
+    let calls : AreCallsInPlace limits.count p.played.entries = rw count p.played.calls in
     record {
       entries = entry.Step n ∷ p.played.entries;
       grew = record {
@@ -123,7 +124,7 @@ line_played blobs limits n line a b t0 t1 n0 n1 sound count p =
         goes = step_then blobs n a.engine b.engine p.played.entries sound p.played.grew.goes;
         holds = λ st h. (p.played.entries, refl, record { does = p.played.grew.holds st h; within = record { few = few; calls = calls } });
       };
-      turns = p.played.turns;
+      calls = step_in_place (length n0) n p.played.entries p.played.calls;
       wrote = p.played.wrote;
       heard = heard_step n p.played.entries n0 n1 p.played.heard;
     }
@@ -135,7 +136,7 @@ pub line_stopped : (blobs : List (List ℕ)) (limits : Limits) (n : ℕ) (line :
 line_stopped blobs limits n line stop a b t0 t1 n0 n1 standing sound count p =
     let es : List Entry = p.played.entries in
     let few : calls_in es ≤ limits.limit = within_limit limits.limit b.left (calls_in es) p.left in
-    let calls : AreCallsInPlace limits.count es = in_place limits.count es (rw count p.played.turns) in
+    let calls : AreCallsInPlace limits.count es = rw count p.played.calls in
     let one : steps_in es ≡ 0 = no_step_in_line blobs standing.state line es (p.played.grew.holds standing.state standing.stands) in
     record {
       entries = entry.Step n ∷ es;
@@ -144,16 +145,16 @@ line_stopped blobs limits n line stop a b t0 t1 n0 n1 standing sound count p =
         goes = step_then blobs n a.engine b.engine es sound p.played.grew.goes;
         holds = λ st h. inr (es, refl, record { begins = p.played.grew.holds st h; within = record { few = few; calls = calls } });
       };
-      turns = p.played.turns;
+      calls = step_in_place (length n0) n es p.played.calls;
       stopped = stopped_then (HasCallsLeft limits.limit) (HasCallsLeftInLine limits.limit) stop (length n0) (entry.Step n ∷ []) es
-          (run_at a t0 n0) (run_at (opened n limits.limit a) t0 n0) (run_at b t1 n1) (left_in_line limits.limit n es one)
-          (wrote_none t0) (heard_silence (entry.Step n ∷ []) n0 (λ w. refl)) p.played.turns p.played.stopped;
+          (outside_view t0 n0) (outside_view t0 n0) (outside_view t1 n1) (left_in_line limits.limit n es one)
+          (wrote_none t0) (heard_silence (entry.Step n ∷ []) n0 (λ w. refl)) p.played.calls p.played.stopped;
     }
 
 -- a line that did not begin
-pub line_unopened : (blobs : List (List ℕ)) (limits : Limits) (n : ℕ) (line : StepLine) (halt : Halt) (a : RunView) (t : SinkView) (notes : List (List Note))
-    → IsPlayedUpTo blobs (part_front (IsNumberedLineBegun (play_inputs blobs limits) n line) (HasCallsLeftInLine limits.limit)) (Halted halt) (run_at a t notes) (run_at a t notes)
-line_unopened blobs limits n line halt a t notes = played_none blobs (HasCallsLeftInLine limits.limit) (IsNumberedLineBegun (play_inputs blobs limits) n line) halt (run_at a t notes) (λ st h. inl refl)
+pub line_unopened : (blobs : List (List ℕ)) (limits : Limits) (n : ℕ) (line : StepLine) (a : RunView) (t : SinkView) (notes : List (List Note))
+    → IsPlayedUpTo blobs (part_front (IsNumberedLineBegun (play_inputs blobs limits) n line) (HasCallsLeftInLine limits.limit)) Memory (run_at a t notes) (run_at a t notes)
+line_unopened blobs limits n line a t notes = played_none blobs (HasCallsLeftInLine limits.limit) (IsNumberedLineBegun (play_inputs blobs limits) n line) Memory (run_at a t notes) memory_wanting (λ st h. inl refl)
 
 -- ---- a call as it is made
 

@@ -1,11 +1,11 @@
 -- The lines of a text.
-use Rattle.std.proofs.Common.{◌≡◌, ◌≢◌, ◌∙◌, ◌<◌, ◌+◌, ◌==◌, ℕ, zero, suc, Bool, true, false, List, [], ◌∷◌, ◌++◌, length, get_or, take, drop, ap, subst, refl, sym, append_assoc, arith, length-append, length-take}
+use Rattle.std.proofs.Common.{◌≡◌, ◌≢◌, ◌∙◌, ◌<◌, ◌+◌, ◌==◌, ℕ, suc, Bool, true, false, List, [], ◌∷◌, ◌++◌, length, get_or, take, drop, ap, refl, sym, append_assoc, arith, length-append, length-take}
 use Rattle.std.specs.Prelude.{if◌then◌else◌, MatchOption, Option, Some, None}
 use Rattle.std.specs.List.{concat}
-use Rattle.std.specs.Str.Pattern.{EndsAtFirstMatch, FindsChar, HasCharAt}
+use Rattle.std.specs.Str.Pattern.{EndsAtFirstMatch, FindsChar}
 use Rattle.std.proofs.Math.Seq.{drop-append_seam}
-use Rattle.std.proofs.lemmas.Bool.{eq-eqb, ne_eqb}
-use Rattle.std.proofs.lemmas.List.{append-nil, take-append-drop, take_at}
+use Rattle.std.proofs.lemmas.Bool.{ne_eqb}
+use Rattle.std.proofs.lemmas.List.{take-append-drop, take_at}
 use Rattle.std.proofs.lemmas.Str.{len_utf8_ascii}
 use Rattle.std.proofs.lemmas.Str.Pattern.{NoCharPasses-char, drop_at_char}
 use Rattle.script_run.specs.Text.{lines_in, onto_first_line}

@@ -7,6 +7,7 @@ pub mod Follows
 pub mod Fronts
 pub mod NoteHistory
 pub mod RunStates
+pub mod Keeps
 pub mod RunParts
 pub mod PlayedParts
 pub mod Progress

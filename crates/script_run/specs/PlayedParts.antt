@@ -15,18 +15,16 @@ use Rattle.event_text.specs.Lines.{line_text}
 use Rattle.mse_engine.specs.State.{State}
 use Rattle.mse_engine.specs.Standing.{Stands}
 use Rattle.mse_engine.specs.Transitions.{IsTransition}
-use Rattle.script_run.specs.declared.stop.Halt.{Halt}
-use Rattle.script_run.specs.declared.stop.Halt.TheVariants as halt
 use Rattle.script_run.specs.declared.stop.Stop.{Stop}
-use Rattle.script_run.specs.declared.stop.Stop.TheVariants.{Halted, CallBudget, TaskBudget}
+use Rattle.script_run.specs.declared.stop.Stop.TheVariants.{Memory, Write, CallBudget, TaskBudget}
 use Rattle.script_run.specs.RunParts.{RunPart, EntryRelation}
 use Rattle.script_run.specs.DrainSteps.{AreInDrainOrder, MachineStep, HasNoEvent}
-use Rattle.script_run.specs.RunStates.{PrintedRun, RunState}
+use Rattle.script_run.specs.RunStates.{OutsideView, PrintedRun, RunState, outside_in}
 use Rattle.script_run.specs.Lines.{own_of}
 use Rattle.script_run.specs.NoteHistory.{IsAllHeard}
 use Rattle.script_run.specs.Text.{lines_of}
-use Rattle.script_run.specs.Turns.{AreInTurn, CallsLeft, HasCallsLeft, calls_in}
-use Rattle.script_run.specs.Writes.{IsWritten, IsFrontWritten, IsFrontWrittenBehind}
+use Rattle.script_run.specs.Turns.{AreCallsInPlace, CallsLeft, HasCallsLeft, calls_in}
+use Rattle.script_run.specs.Writes.{IsWritten, IsFrontWritten, IsFrontWrittenBehind, IsShortOf}
 
 -- entries came, which the engine went by, and no listener called
 pub record IsOwnStep (blobs : List (List ℕ)) (entries : List Entry)
@@ -61,13 +59,12 @@ pub record HasGrown (blobs : List (List ℕ)) (does : EntryRelation) (old new : 
   pub goes : IsTransition blobs old.engine new.engine entries
   pub holds : (st : State) → Stands old.engine st → does st entries
 
--- a part went through: all its lines were written, and each listener heard each event and answered
--- it in its turn
+-- a part went through: all its lines were written, and each listener heard and answered each event
 pub record IsPlayed (blobs : List (List ℕ)) (does : EntryRelation)
     (old new : RunState) : Type 0 where
   pub entries : List Entry
   pub grew : HasGrown blobs does old.run new.run entries
-  pub turns : AreInTurn (length old.notes) None entries
+  pub calls : AreCallsInPlace (length old.notes) entries
   pub wrote : IsWritten (lines_of entries) old.written new.written
   pub heard : IsAllHeard entries old.notes new.notes
 
@@ -93,26 +90,6 @@ pub record IsDispatchCut (calls_left : CallsLeft) (fault : DispatchFault) (entri
   pub count : length new ≡ length middle
   pub end : IsFailedDispatch event (dispatch_end calls left middle new) fault
 
--- A listener answered a call beyond a limit, for which a run stops so.
-abbrev pub IsOverLimit : CallsLeft → Stop → List Entry
-    → List (List Note) → List (List Note) → Type 0
-IsOverLimit calls_left (CallBudget k) entries old new =
-    IsDispatchCut calls_left (fault.CallBudget k) entries old new
-IsOverLimit calls_left TaskBudget entries old new =
-    IsDispatchCut calls_left fault.TaskBudget entries old new
-IsOverLimit calls_left (Halted halt) entries old new = ⊥
-
--- What was heard where memory or the sink was wanting: each listener heard each event, but that the
--- dispatch of the last one may have ended at a limit, or, where memory was wanting, for want of it.
-abbrev pub IsHeardUpTo : CallsLeft → Halt → List Entry
-    → List (List Note) → List (List Note) → Type 0
-IsHeardUpTo calls_left halt.Memory entries old new =
-    IsAllHeard entries old new
-    ⊎ IsDispatchCut calls_left fault.OutOfMemory entries old new
-    ⊎ ((stop : Stop) × IsOverLimit calls_left stop entries old new)
-IsHeardUpTo calls_left halt.Write entries old new =
-    IsAllHeard entries old new ⊎ ((stop : Stop) × IsOverLimit calls_left stop entries old new)
-
 -- one thing that was done at most, with the calls by which listeners answered it
 abbrev pub IsOneStepAtMost : List Entry → Type 0
 IsOneStepAtMost [] = ⊤
@@ -127,14 +104,39 @@ pub record IsWrittenToLastStep (entries : List Entry) (old new : SinkView) : Typ
   pub one_step : IsOneStepAtMost last
   pub wrote : IsFrontWrittenBehind (lines_of before) (lines_of last) old new
 
--- what was written and heard where a part stopped so
-abbrev pub IsStoppedBy : CallsLeft → Stop → List Entry → RunState → RunState → Type 0
-IsStoppedBy calls_left (Halted halt) entries old new =
-    IsWrittenToLastStep entries old.written new.written
-    × IsHeardUpTo calls_left halt entries old.notes new.notes
-IsStoppedBy calls_left stop entries old new =
-    IsWritten (lines_of entries) old.written new.written
-    × IsOverLimit calls_left stop entries old.notes new.notes
+-- the stop that a fault of a dispatch is
+abbrev pub stop_of : DispatchFault → Stop
+stop_of fault.OutOfMemory = Memory
+stop_of (fault.CallBudget k) = CallBudget k
+stop_of fault.TaskBudget = TaskBudget
+
+-- How much was written where a part stopped so; the fault is that of the last dispatch, if it had one. At a limit all lines
+-- were. Where memory or the sink was wanting, all lines but those of the last thing that was done were, and a front of
+-- these. Where memory was wanting although the last dispatch ended at a limit, not all of these.
+abbrev pub IsWrittenUpTo : Stop → Option DispatchFault → List Entry → SinkView → SinkView → Type 0
+IsWrittenUpTo Memory None entries old new = IsWrittenToLastStep entries old new
+IsWrittenUpTo Memory (Some fault.OutOfMemory) entries old new = IsWrittenToLastStep entries old new
+IsWrittenUpTo Memory (Some limit) entries old new =
+    IsWrittenToLastStep entries old new × IsShortOf (lines_of entries) old new
+IsWrittenUpTo Write (Some fault.OutOfMemory) entries old new = ⊥
+IsWrittenUpTo Write other entries old new = IsWrittenToLastStep entries old new
+IsWrittenUpTo stop None entries old new = ⊥
+IsWrittenUpTo stop (Some fault) entries old new =
+    (stop ≡ stop_of fault) × IsWritten (lines_of entries) old new
+
+-- What was heard: each listener heard each event and answered it, but that the last dispatch may have ended with
+-- a fault.
+abbrev pub IsHeardUpTo : CallsLeft → Option DispatchFault → List Entry
+    → List (List Note) → List (List Note) → Type 0
+IsHeardUpTo calls_left None entries old new = IsAllHeard entries old new
+IsHeardUpTo calls_left (Some fault) entries old new = IsDispatchCut calls_left fault entries old new
+
+-- How far a part came that stopped for this reason: what was heard, and what was written.
+pub record IsStoppedBy (calls_left : CallsLeft) (stop : Stop) (entries : List Entry)
+    (old new : OutsideView) : Type 0 where
+  pub fault : Option DispatchFault
+  pub heard : IsHeardUpTo calls_left fault entries old.notes new.notes
+  pub wrote : IsWrittenUpTo stop fault entries old.written new.written
 
 -- a front of a part, and what says how many calls are left behind its entries
 pub record PartFront : Type 1 where
@@ -149,8 +151,8 @@ pub record IsPlayedUpTo (blobs : List (List ℕ)) (front : PartFront) (stop : St
     (old new : RunState) : Type 0 where
   pub entries : List Entry
   pub grew : HasGrown blobs front.begins old.run new.run entries
-  pub turns : AreInTurn (length old.notes) None entries
-  pub stopped : IsStoppedBy front.calls_left stop entries old new
+  pub calls : AreCallsInPlace (length old.notes) entries
+  pub stopped : IsStoppedBy front.calls_left stop entries (outside_in old) (outside_in new)
 
 -- in a line, in which so many calls were left
 pub record IsPlayedInLineUpTo (blobs : List (List ℕ)) (begins : EntryRelation) (stop : Stop)
@@ -187,9 +189,3 @@ pub record IsCallHalfWritten (blobs : List (List ℕ)) (call : Call)
 abbrev pub IsCallHalted : List (List ℕ) → Call → PrintedRun → PrintedRun → Type 0
 IsCallHalted blobs call old new =
     ((new.run ≡ old.run) × (new.written ≡ old.written)) ⊎ IsCallHalfWritten blobs call old new
-
--- the stop that a fault of a dispatch is
-abbrev pub stop_of : DispatchFault → Stop
-stop_of fault.OutOfMemory = Halted halt.Memory
-stop_of (fault.CallBudget k) = CallBudget k
-stop_of fault.TaskBudget = TaskBudget

@@ -20,3 +20,14 @@ pub record RunState : Type 0 where
 
 abbrev pub run_at : RunView → SinkView → List (List Note) → RunState
 run_at run written notes = record { run = run; written = written; notes = notes }
+
+-- the outside of a run alone: what was written, and the notes of each listener
+pub record OutsideView : Type 0 where
+  pub written : SinkView
+  pub notes : List (List Note)
+
+abbrev pub outside_view : SinkView → List (List Note) → OutsideView
+outside_view written notes = record { written = written; notes = notes }
+
+abbrev pub outside_in : RunState → OutsideView
+outside_in state = outside_view state.written state.notes

@@ -1,5 +1,5 @@
 -- What a sink was given.
-use Rattle.std.specs.Prelude.{◌≡◌, ◌⊎◌, ℕ, List, [], ◌∷◌, ◌++◌, Option, Some, IfSome, Result, Ok, Err}
+use Rattle.std.specs.Prelude.{◌≡◌, ◌⊎◌, ◌+◌, ◌<◌, ℕ, List, [], ◌∷◌, ◌++◌, length, Some, IfSome, Result, Ok, Err}
 use Rattle.std.specs.List.{concat}
 use Rattle.mse_outside.specs.Outside.{HasFrontAppended, IfTold, SinkView}
 use Rattle.mse_outside.specs.declared.sink.Put.{Put}
@@ -37,6 +37,11 @@ pub record IsFrontWrittenBehind (lines more : List (List ℕ)) (old new : SinkVi
   pub middle : SinkView
   pub wrote : IsWritten lines old middle
   pub front : IsFrontWritten more middle new
+
+-- fewer bytes came than these lines have, where they are told
+abbrev pub IsShortOf : List (List ℕ) → SinkView → SinkView → Type 0
+IsShortOf lines old new =
+    IfTold old.bytes new.bytes (λ before now. length now < length before + length (concat lines))
 
 -- what a run makes of the answer to a put
 abbrev pub halt_of : Put → Result (Unit {0}) Halt

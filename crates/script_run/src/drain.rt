@@ -9,8 +9,8 @@ ghost use Rattle.script_run.specs.RunParts.{line_part, drain_part};
 ghost use Rattle.script_run.specs.DrainSteps.{IsAtRest, IsQuiet, HasNoEvent};
 ghost use Rattle.script_run.specs.Progress.{IsCalm, HasFewerEvents};
 ghost use Rattle.script_run.specs.PlayedParts.{IsPlayedInLineBy};
+ghost use Rattle.script_run.specs.Keeps.{AreFailuresTold, AreListenersKept};
 ghost use Rattle.script_run.specs.RunStates.{run_at};
-ghost use Rattle.listeners.specs.Ways.{AreByWay};
 
 use crate::put::put_entries;
 use crate::run::ScriptRun;
@@ -31,13 +31,8 @@ impl<S: FrameStore> ScriptRun<S> {
     ) -> Result<bool, Stop>
         requires { vec_len listeners.old < 2 ^ 32 }
         ensures count { vec_len listeners.new ≡ vec_len listeners.old }
-        ensures kinds { map (λ b. b.vtable) listeners.new.items
-            ≡ map (λ b. b.vtable) listeners.old.items }
-        ensures ways { map (λ b. way b) listeners.new.items ≡ map (λ b. way b) listeners.old.items }
-        ensures by_way { AreByWay way rules notes listeners.old.items
-            → AreByWay way rules notes listeners.new.items }
-        ensures rules { map (λ b. rules b) listeners.new.items
-            ≡ map (λ b. rules b) listeners.old.items }
+        ensures listeners { AreListenersKept (λ b. b.vtable) way rules notes listeners.old.items
+            listeners.new.items }
         ensures ran { IsPlayedInLineBy (line_part blobs.now StepLine.Fire)
             (run_at self.old (K.written sink.old) (map (λ b. notes b) listeners.old.items))
             (run_at self.new (K.written sink.new) (map (λ b. notes b) listeners.new.items)) result }
@@ -46,15 +41,12 @@ impl<S: FrameStore> ScriptRun<S> {
         ensures none { result ≡ Ok false → self.new ≡ self.old }
         ensures empty { result ≡ Ok false → (st : State) → Stands self.old.engine st →
             HasNoEvent st }
-        ensures no_fewer_faults { K.faults sink.old ≤ K.faults sink.new }
-        ensures cause { IsErrOf result (Stop.Halted Halt.Write)
-            → HasRisen (K.faults sink.old) (K.faults sink.new) }
-        ensures failures_told { ¬ IsErrOf result (Stop.Halted Halt.Write)
-            → K.faults sink.new ≡ K.faults sink.old }
+        ensures failures { AreFailuresTold Stop.Write (K.faults sink.old) (K.faults sink.new)
+            result }
     {
         let from = self.journal.len();
         let Ok(next_event) = self.take_event() else {
-            return Err(Stop::Halted(Halt::Memory));
+            return Err(Stop::Memory);
         };
         let Some(event) = next_event else {
             return Ok(false);
@@ -68,11 +60,12 @@ impl<S: FrameStore> ScriptRun<S> {
             &mut self.journal,
         );
         if is_out_of_memory(outcome) {
-            return Err(Stop::Halted(Halt::Memory));
+            return Err(Stop::Memory);
         }
         match put_entries(self.alloc, sink, &self.journal, from) {
             Ok(()) => {}
-            Err(halt) => return Err(Stop::Halted(halt)),
+            Err(Halt::Memory) => return Err(Stop::Memory),
+            Err(Halt::Write) => return Err(Stop::Write),
         }
         match outcome {
             Ok(()) => {}
@@ -91,13 +84,8 @@ impl<S: FrameStore> ScriptRun<S> {
     ) -> Result<bool, Stop>
         requires { vec_len listeners.old < 2 ^ 32 }
         ensures count { vec_len listeners.new ≡ vec_len listeners.old }
-        ensures kinds { map (λ b. b.vtable) listeners.new.items
-            ≡ map (λ b. b.vtable) listeners.old.items }
-        ensures ways { map (λ b. way b) listeners.new.items ≡ map (λ b. way b) listeners.old.items }
-        ensures by_way { AreByWay way rules notes listeners.old.items
-            → AreByWay way rules notes listeners.new.items }
-        ensures rules { map (λ b. rules b) listeners.new.items
-            ≡ map (λ b. rules b) listeners.old.items }
+        ensures listeners { AreListenersKept (λ b. b.vtable) way rules notes listeners.old.items
+            listeners.new.items }
         ensures ran { IsPlayedInLineBy (drain_part blobs.now)
             (run_at self.old (K.written sink.old) (map (λ b. notes b) listeners.old.items))
             (run_at self.new (K.written sink.new) (map (λ b. notes b) listeners.new.items)) result }
@@ -105,11 +93,8 @@ impl<S: FrameStore> ScriptRun<S> {
         ensures nothing_left { result ≡ Ok true → (st : State) → Stands self.new.engine st
             → HasNoEvent st }
         ensures called { result ≡ Ok false → self.new.left < self.old.left }
-        ensures no_fewer_faults { K.faults sink.old ≤ K.faults sink.new }
-        ensures cause { IsErrOf result (Stop.Halted Halt.Write)
-            → HasRisen (K.faults sink.old) (K.faults sink.new) }
-        ensures failures_told { ¬ IsErrOf result (Stop.Halted Halt.Write)
-            → K.faults sink.new ≡ K.faults sink.old }
+        ensures failures { AreFailuresTold Stop.Write (K.faults sink.old) (K.faults sink.new)
+            result }
     {
         let before = self.left;
         'firing: loop {
@@ -134,24 +119,16 @@ impl<S: FrameStore> ScriptRun<S> {
     ) -> Result<bool, Stop>
         requires { vec_len listeners.old < 2 ^ 32 }
         ensures count { vec_len listeners.new ≡ vec_len listeners.old }
-        ensures kinds { map (λ b. b.vtable) listeners.new.items
-            ≡ map (λ b. b.vtable) listeners.old.items }
-        ensures ways { map (λ b. way b) listeners.new.items ≡ map (λ b. way b) listeners.old.items }
-        ensures by_way { AreByWay way rules notes listeners.old.items
-            → AreByWay way rules notes listeners.new.items }
-        ensures rules { map (λ b. rules b) listeners.new.items
-            ≡ map (λ b. rules b) listeners.old.items }
+        ensures listeners { AreListenersKept (λ b. b.vtable) way rules notes listeners.old.items
+            listeners.new.items }
         ensures ran { IsPlayedInLineBy (drain_part blobs.now)
             (run_at self.old (K.written sink.old) (map (λ b. notes b) listeners.old.items))
             (run_at self.new (K.written sink.new) (map (λ b. notes b) listeners.new.items)) result }
         ensures nothing_left { result ≡ Ok true → (st : State) → Stands self.new.engine st
             → IsQuiet st }
         ensures called { result ≡ Ok false → self.new.left < self.old.left }
-        ensures no_fewer_faults { K.faults sink.old ≤ K.faults sink.new }
-        ensures cause { IsErrOf result (Stop.Halted Halt.Write)
-            → HasRisen (K.faults sink.old) (K.faults sink.new) }
-        ensures failures_told { ¬ IsErrOf result (Stop.Halted Halt.Write)
-            → K.faults sink.new ≡ K.faults sink.old }
+        ensures failures { AreFailuresTold Stop.Write (K.faults sink.old) (K.faults sink.new)
+            result }
     {
         'working: loop {
             match self.fire_all(blobs, sink, listeners) {
@@ -165,7 +142,7 @@ impl<S: FrameStore> ScriptRun<S> {
                 return Ok(true);
             };
             let Ok(_has_worked) = self.work(k) else {
-                return Err(Stop::Halted(Halt::Memory));
+                return Err(Stop::Memory);
             };
         }
     }
@@ -181,24 +158,16 @@ impl<S: FrameStore> ScriptRun<S> {
         requires quiet { (st : State) → Stands self.old.engine st → IsQuiet st }
         requires listeners { vec_len listeners.old < 2 ^ 32 }
         ensures count { vec_len listeners.new ≡ vec_len listeners.old }
-        ensures kinds { map (λ b. b.vtable) listeners.new.items
-            ≡ map (λ b. b.vtable) listeners.old.items }
-        ensures ways { map (λ b. way b) listeners.new.items ≡ map (λ b. way b) listeners.old.items }
-        ensures by_way { AreByWay way rules notes listeners.old.items
-            → AreByWay way rules notes listeners.new.items }
-        ensures rules { map (λ b. rules b) listeners.new.items
-            ≡ map (λ b. rules b) listeners.old.items }
+        ensures listeners { AreListenersKept (λ b. b.vtable) way rules notes listeners.old.items
+            listeners.new.items }
         ensures ran { IsPlayedInLineBy (drain_part blobs.now)
             (run_at self.old (K.written sink.old) (map (λ b. notes b) listeners.old.items))
             (run_at self.new (K.written sink.new) (map (λ b. notes b) listeners.new.items)) result }
         ensures nothing_left { result ≡ Ok true → (st : State) → Stands self.new.engine st
             → IsAtRest st }
         ensures called { result ≡ Ok false → self.new.left < self.old.left }
-        ensures no_fewer_faults { K.faults sink.old ≤ K.faults sink.new }
-        ensures cause { IsErrOf result (Stop.Halted Halt.Write)
-            → HasRisen (K.faults sink.old) (K.faults sink.new) }
-        ensures failures_told { ¬ IsErrOf result (Stop.Halted Halt.Write)
-            → K.faults sink.new ≡ K.faults sink.old }
+        ensures failures { AreFailuresTold Stop.Write (K.faults sink.old) (K.faults sink.new)
+            result }
     {
         'turning: loop {
             // The proof reads off this that there is a state that the engine stands for.
@@ -207,7 +176,7 @@ impl<S: FrameStore> ScriptRun<S> {
                 return Ok(true);
             }
             let Ok(_has_turned) = self.turn() else {
-                return Err(Stop::Halted(Halt::Memory));
+                return Err(Stop::Memory);
             };
             match self.fire_all(blobs, sink, listeners) {
                 Err(stop) => return Err(stop),
@@ -226,24 +195,16 @@ impl<S: FrameStore> ScriptRun<S> {
     ) -> Result<bool, Stop>
         requires { vec_len listeners.old < 2 ^ 32 }
         ensures count { vec_len listeners.new ≡ vec_len listeners.old }
-        ensures kinds { map (λ b. b.vtable) listeners.new.items
-            ≡ map (λ b. b.vtable) listeners.old.items }
-        ensures ways { map (λ b. way b) listeners.new.items ≡ map (λ b. way b) listeners.old.items }
-        ensures by_way { AreByWay way rules notes listeners.old.items
-            → AreByWay way rules notes listeners.new.items }
-        ensures rules { map (λ b. rules b) listeners.new.items
-            ≡ map (λ b. rules b) listeners.old.items }
+        ensures listeners { AreListenersKept (λ b. b.vtable) way rules notes listeners.old.items
+            listeners.new.items }
         ensures ran { IsPlayedInLineBy (drain_part blobs.now)
             (run_at self.old (K.written sink.old) (map (λ b. notes b) listeners.old.items))
             (run_at self.new (K.written sink.new) (map (λ b. notes b) listeners.new.items)) result }
         ensures nothing_left { result ≡ Ok true → (st : State) → Stands self.new.engine st
             → IsAtRest st }
         ensures called { result ≡ Ok false → self.new.left < self.old.left }
-        ensures no_fewer_faults { K.faults sink.old ≤ K.faults sink.new }
-        ensures cause { IsErrOf result (Stop.Halted Halt.Write)
-            → HasRisen (K.faults sink.old) (K.faults sink.new) }
-        ensures failures_told { ¬ IsErrOf result (Stop.Halted Halt.Write)
-            → K.faults sink.new ≡ K.faults sink.old }
+        ensures failures { AreFailuresTold Stop.Write (K.faults sink.old) (K.faults sink.new)
+            result }
     {
         match self.work_all(blobs, sink, listeners) {
             Err(stop) => return Err(stop),
@@ -265,21 +226,13 @@ impl<S: FrameStore> ScriptRun<S> {
     ) -> Result<(), Stop>
         requires { vec_len listeners.old < 2 ^ 32 }
         ensures count { vec_len listeners.new ≡ vec_len listeners.old }
-        ensures kinds { map (λ b. b.vtable) listeners.new.items
-            ≡ map (λ b. b.vtable) listeners.old.items }
-        ensures ways { map (λ b. way b) listeners.new.items ≡ map (λ b. way b) listeners.old.items }
-        ensures by_way { AreByWay way rules notes listeners.old.items
-            → AreByWay way rules notes listeners.new.items }
-        ensures rules { map (λ b. rules b) listeners.new.items
-            ≡ map (λ b. rules b) listeners.old.items }
+        ensures listeners { AreListenersKept (λ b. b.vtable) way rules notes listeners.old.items
+            listeners.new.items }
         ensures ran { IsPlayedInLineBy (line_part blobs.now StepLine.Drain)
             (run_at self.old (K.written sink.old) (map (λ b. notes b) listeners.old.items))
             (run_at self.new (K.written sink.new) (map (λ b. notes b) listeners.new.items)) result }
-        ensures no_fewer_faults { K.faults sink.old ≤ K.faults sink.new }
-        ensures cause { IsErrOf result (Stop.Halted Halt.Write)
-            → HasRisen (K.faults sink.old) (K.faults sink.new) }
-        ensures failures_told { ¬ IsErrOf result (Stop.Halted Halt.Write)
-            → K.faults sink.new ≡ K.faults sink.old }
+        ensures failures { AreFailuresTold Stop.Write (K.faults sink.old) (K.faults sink.new)
+            result }
     {
         'draining: loop {
             match self.finish_work(blobs, sink, listeners) {

@@ -6,6 +6,7 @@ ghost use Rattle.mse_outside.specs.Outside.{HasRisen};
 ghost use Rattle.script_run.specs.RunParts.{line_part, numbered_line_part, script_part};
 ghost use Rattle.script_run.specs.Lines.{limits, play_inputs};
 ghost use Rattle.script_run.specs.PlayedParts.{IsCallHalted, IsCallMade, IsPlayedBy, IsPlayedInLineBy};
+ghost use Rattle.script_run.specs.Keeps.{AreFailuresTold, AreListenersKept};
 ghost use Rattle.script_run.specs.RunStates.{printed_run, run_at};
 ghost use Rattle.script_run.specs.Turns.{HasCallsLeftInLine};
 ghost use Rattle.listeners.specs.Ways.{AreByWay};
@@ -33,11 +34,8 @@ impl<S: FrameStore> ScriptRun<S> {
         ensures err { OnErr result (IsCallHalted blobs.now call.now
             (printed_run self.old (K.written sink.old))
             (printed_run self.new (K.written sink.new))) }
-        ensures no_fewer_faults { K.faults sink.old ≤ K.faults sink.new }
-        ensures cause { IsErrOf result Halt.Write
-            → HasRisen (K.faults sink.old) (K.faults sink.new) }
-        ensures failures_told { ¬ IsErrOf result Halt.Write
-            → K.faults sink.new ≡ K.faults sink.old }
+        ensures failures { AreFailuresTold Halt.Write (K.faults sink.old) (K.faults sink.new)
+            result }
     {
         let from = self.journal.len();
         let Ok(()) = self.call(blobs, call) else {
@@ -56,26 +54,19 @@ impl<S: FrameStore> ScriptRun<S> {
     ) -> Result<(), Stop>
         requires { vec_len listeners.old < 2 ^ 32 }
         ensures count { vec_len listeners.new ≡ vec_len listeners.old }
-        ensures kinds { map (λ b. b.vtable) listeners.new.items
-            ≡ map (λ b. b.vtable) listeners.old.items }
-        ensures ways { map (λ b. way b) listeners.new.items ≡ map (λ b. way b) listeners.old.items }
-        ensures by_way { AreByWay way rules notes listeners.old.items
-            → AreByWay way rules notes listeners.new.items }
-        ensures rules { map (λ b. rules b) listeners.new.items
-            ≡ map (λ b. rules b) listeners.old.items }
+        ensures listeners { AreListenersKept (λ b. b.vtable) way rules notes listeners.old.items
+            listeners.new.items }
         ensures ran { IsPlayedInLineBy (line_part blobs.now line.now)
             (run_at self.old (K.written sink.old) (map (λ b. notes b) listeners.old.items))
             (run_at self.new (K.written sink.new) (map (λ b. notes b) listeners.new.items)) result }
-        ensures no_fewer_faults { K.faults sink.old ≤ K.faults sink.new }
-        ensures cause { IsErrOf result (Stop.Halted Halt.Write)
-            → HasRisen (K.faults sink.old) (K.faults sink.new) }
-        ensures failures_told { ¬ IsErrOf result (Stop.Halted Halt.Write)
-            → K.faults sink.new ≡ K.faults sink.old }
+        ensures failures { AreFailuresTold Stop.Write (K.faults sink.old) (K.faults sink.new)
+            result }
     {
         match line {
             StepLine::Call(call) => match self.call_and_print(blobs, sink, call) {
                 Ok(()) => Ok(()),
-                Err(halt) => Err(Stop::Halted(halt)),
+                Err(Halt::Memory) => Err(Stop::Memory),
+                Err(Halt::Write) => Err(Stop::Write),
             },
             StepLine::Fire => match self.fire(blobs, sink, listeners) {
                 Ok(_) => Ok(()),
@@ -83,11 +74,11 @@ impl<S: FrameStore> ScriptRun<S> {
             },
             StepLine::Work(k) => match self.work(*k) {
                 Ok(_) => Ok(()),
-                Err(_) => Err(Stop::Halted(Halt::Memory)),
+                Err(_) => Err(Stop::Memory),
             },
             StepLine::Element => match self.turn() {
                 Ok(_) => Ok(()),
-                Err(_) => Err(Stop::Halted(Halt::Memory)),
+                Err(_) => Err(Stop::Memory),
             },
             StepLine::Drain => self.drain(blobs, sink, listeners),
         }
@@ -105,35 +96,28 @@ impl<S: FrameStore> ScriptRun<S> {
     ) -> Result<(), Stop>
         requires { vec_len listeners.old < 2 ^ 32 }
         ensures count { vec_len listeners.new ≡ vec_len listeners.old }
-        ensures kinds { map (λ b. b.vtable) listeners.new.items
-            ≡ map (λ b. b.vtable) listeners.old.items }
-        ensures ways { map (λ b. way b) listeners.new.items ≡ map (λ b. way b) listeners.old.items }
-        ensures by_way { AreByWay way rules notes listeners.old.items
-            → AreByWay way rules notes listeners.new.items }
-        ensures rules { map (λ b. rules b) listeners.new.items
-            ≡ map (λ b. rules b) listeners.old.items }
+        ensures listeners { AreListenersKept (λ b. b.vtable) way rules notes listeners.old.items
+            listeners.new.items }
         ensures played { IsPlayedBy (HasCallsLeftInLine limit) (numbered_line_part
             (play_inputs blobs.now (limits limit (vec_len listeners.old))) n line.now)
             (run_at self.old (K.written sink.old) (map (λ b. notes b) listeners.old.items))
             (run_at self.new (K.written sink.new) (map (λ b. notes b) listeners.new.items)) result }
-        ensures no_fewer_faults { K.faults sink.old ≤ K.faults sink.new }
-        ensures cause { IsErrOf result (Stop.Halted Halt.Write)
-            → HasRisen (K.faults sink.old) (K.faults sink.new) }
-        ensures failures_told { ¬ IsErrOf result (Stop.Halted Halt.Write)
-            → K.faults sink.new ≡ K.faults sink.old }
+        ensures failures { AreFailuresTold Stop.Write (K.faults sink.old) (K.faults sink.new)
+            result }
     {
         match self.open_line(n, limit) {
             Ok(()) => self.do_line(blobs, sink, listeners, line),
-            Err(_) => Err(Stop::Halted(Halt::Memory)),
+            Err(_) => Err(Stop::Memory),
         }
     }
 
     /// Does the lines of a script one after the other; listeners may make `limit` calls in each.
     /// Each printed line is one put, made when its entry has come.
     ///
-    /// It stops where memory is wanting or a put fails (`Halted`), where a listener answers an event
-    /// with more than 1000 calls (`CallBudget`), and where listeners answer more than `limit` calls in
-    /// one line (`TaskBudget`). What was done by then stands in the journal and in the engine.
+    /// It stops where memory is wanting (`Memory`), where a put fails (`Write`), where a listener
+    /// answers an event with more than 1000 calls (`CallBudget`), and where listeners answer more than
+    /// `limit` calls in one line (`TaskBudget`). What was done by then stands in the journal and in the
+    /// engine.
     pub fn play<K: Sink>(
         &mut self,
         blobs: &Blobs,
@@ -157,9 +141,9 @@ impl<S: FrameStore> ScriptRun<S> {
             (run_at self.old (K.written sink.old) (map (λ b. notes b) listeners.old.items))
             (run_at self.new (K.written sink.new) (map (λ b. notes b) listeners.new.items)) result }
         ensures no_fewer_faults { K.faults sink.old ≤ K.faults sink.new }
-        ensures cause { IsErrOf result (Stop.Halted Halt.Write)
+        ensures cause { IsErrOf result Stop.Write
             → HasRisen (K.faults sink.old) (K.faults sink.new) }
-        ensures failures_told { ¬ IsErrOf result (Stop.Halted Halt.Write)
+        ensures failures_told { ¬ IsErrOf result Stop.Write
             → K.faults sink.new ≡ K.faults sink.old }
     {
         for n in 0..lines.len() {

@@ -1,10 +1,12 @@
 //! Lines for the sink.
 
-ghost use Rattle.std.specs.Prelude.{◌≡◌, ◌≤◌, [], ◌∷◌, length, drop, option_to_list, IfOk, OnOk, OnErr, IsErrOf};
+ghost use Rattle.std.specs.Prelude.{◌≡◌, ◌≤◌, ◌<◌, [], ◌∷◌, length, drop, option_to_list, IfOk, OnOk, OnErr, IsErrOf};
 ghost use Rattle.mse_outside.specs.Outside.{HasRisen};
+ghost use Rattle.event_text.specs.Lines.{line_text};
 ghost use Rattle.run_journal.specs.EntryRef.{entry_of};
+ghost use Rattle.script_run.specs.Keeps.{AreFailuresTold};
 ghost use Rattle.script_run.specs.Text.{lines_in, lines_of, lines_of_entry};
-ghost use Rattle.script_run.specs.Writes.{IsWritten, IsFrontWritten, halt_of};
+ghost use Rattle.script_run.specs.Writes.{IsWritten, IsFrontWritten, IsShortOf, halt_of};
 
 use crate::stop::Halt;
 use event_text::{event_line, listener_line, script_line};
@@ -26,12 +28,15 @@ fn halt_of(answer: Put) -> Result<(), Halt>
 }
 
 /// Puts bytes, with one put. After an `Err` a front part of them was written: `Write` where the sink
-/// counted a failure, and `Memory` where it found none.
+/// counted a failure, and `Memory` where it found no memory: then not all bytes were written, unless
+/// there were none.
 pub fn put_bytes<K: Sink>(sink: &mut K, bytes: &[u8]) -> Result<(), Halt>
     ensures ok { OnOk result (IsWritten (bytes.now ∷ []) (K.written sink.old)
         (K.written sink.new)) }
     ensures err { OnErr result (IsFrontWritten (bytes.now ∷ []) (K.written sink.old)
         (K.written sink.new)) }
+    ensures short { IsErrOf result Halt.Memory → 0 < length bytes.now
+        → IsShortOf (bytes.now ∷ []) (K.written sink.old) (K.written sink.new) }
     ensures no_fewer_faults { K.faults sink.old ≤ K.faults sink.new }
     ensures cause { IsErrOf result Halt.Write → HasRisen (K.faults sink.old) (K.faults sink.new) }
     ensures failures_told { ¬ IsErrOf result Halt.Write → K.faults sink.new ≡ K.faults sink.old }
@@ -61,7 +66,8 @@ pub fn put_lines<K: Sink>(sink: &mut K, text: &str) -> Result<(), Halt>
 
 /// The line of an entry; `None` for an entry that prints nothing.
 fn entry_line(alloc: Global, entry: &EntryRef<'_>) -> Result<Option<Text>, OutOfMemory>
-    ensures { IfOk result (λ line. lines_of_entry (entry_of entry.now) ≡ option_to_list line) }
+    ensures ok { IfOk result (λ line. lines_of_entry (entry_of entry.now) ≡ option_to_list line) }
+    ensures err { OnErr result (0 < length (line_text (entry_of entry.now))) }
 {
     let line = match *entry {
         EntryRef::Script(call, answer) => script_line(alloc, call, answer)?,
@@ -81,9 +87,9 @@ fn put_entry<K: Sink>(alloc: Global, sink: &mut K, entry: &EntryRef<'_>) -> Resu
         (K.written sink.new)) }
     ensures err { OnErr result (IsFrontWritten (lines_of_entry (entry_of entry.now))
         (K.written sink.old) (K.written sink.new)) }
-    ensures no_fewer_faults { K.faults sink.old ≤ K.faults sink.new }
-    ensures cause { IsErrOf result Halt.Write → HasRisen (K.faults sink.old) (K.faults sink.new) }
-    ensures failures_told { ¬ IsErrOf result Halt.Write → K.faults sink.new ≡ K.faults sink.old }
+    ensures short { IsErrOf result Halt.Memory → IsShortOf (lines_of_entry (entry_of entry.now))
+        (K.written sink.old) (K.written sink.new) }
+    ensures failures { AreFailuresTold Halt.Write (K.faults sink.old) (K.faults sink.new) result }
 {
     match entry_line(alloc, entry) {
         Ok(Some(line)) => put_bytes(sink, line.as_str().as_bytes()),
@@ -92,7 +98,7 @@ fn put_entry<K: Sink>(alloc: Global, sink: &mut K, entry: &EntryRef<'_>) -> Resu
     }
 }
 
-/// Puts the lines of the entries from a place on.
+/// Puts the lines of the entries from a place on. After `Memory` not all of them were written.
 pub(crate) fn put_entries<K: Sink>(
     alloc: Global,
     sink: &mut K,
@@ -104,9 +110,10 @@ pub(crate) fn put_entries<K: Sink>(
         (K.written sink.old) (K.written sink.new)) }
     ensures err { OnErr result (IsFrontWritten (lines_of (drop from journal.now.entries))
         (K.written sink.old) (K.written sink.new)) }
-    ensures no_fewer_faults { K.faults sink.old ≤ K.faults sink.new }
-    ensures cause { IsErrOf result Halt.Write → HasRisen (K.faults sink.old) (K.faults sink.new) }
-    ensures failures_told { ¬ IsErrOf result Halt.Write → K.faults sink.new ≡ K.faults sink.old }
+    ensures short { IsErrOf result Halt.Memory
+        → IsShortOf (lines_of (drop from journal.now.entries))
+        (K.written sink.old) (K.written sink.new) }
+    ensures failures { AreFailuresTold Halt.Write (K.faults sink.old) (K.faults sink.new) result }
 {
     for i in from..journal.len() {
         let Some(entry) = journal.get(i) else {

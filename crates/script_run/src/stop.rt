@@ -5,7 +5,7 @@ ghost use Rattle.script_run.specs.PlayedParts.{stop_of};
 
 use listeners::DispatchFault;
 
-/// What may be wanting at any place.
+/// What may be wanting where a call is made or a line is put.
 #[derive(Clone, Copy, Debug, PartialEq, Eq)]
 pub enum Halt {
     /// There was no memory.
@@ -17,8 +17,10 @@ pub enum Halt {
 /// Why a run stops before the end of its script.
 #[derive(Clone, Copy, Debug, PartialEq, Eq)]
 pub enum Stop {
-    /// Memory or the sink was wanting.
-    Halted(Halt),
+    /// There was no memory.
+    Memory,
+    /// The sink failed to take bytes.
+    Write,
     /// The listener of this number answered an event with more than 1000 calls.
     CallBudget(u32),
     /// Listeners answered more calls than they may make in one line.
@@ -31,7 +33,7 @@ impl Stop {
         ensures { result ≡ stop_of fault }
     {
         match fault {
-            DispatchFault::OutOfMemory => Stop::Halted(Halt::Memory),
+            DispatchFault::OutOfMemory => Stop::Memory,
             DispatchFault::CallBudget(number) => Stop::CallBudget(number),
             DispatchFault::TaskBudget => Stop::TaskBudget,
         }

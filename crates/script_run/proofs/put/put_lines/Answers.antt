@@ -1,4 +1,4 @@
-use Rattle.std.proofs.Common.{◌≡◌, ◌≤◌, arith, ◌∙◌, ◌∷◌, [], List, refl, ap, subst}
+use Rattle.std.proofs.Common.{◌≤◌, arith, ◌∙◌, [], refl, ap, subst}
 use Rattle.std.specs.Str.Iter.{split_inclusive_pattern, split_inclusive_text}
 use Rattle.std.specs.Str.Pattern.{EndsAtFirstMatch, FindsChar}
 use Rattle.script_run.specs.Text.{lines_in}

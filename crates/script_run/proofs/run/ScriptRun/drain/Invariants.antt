@@ -1,22 +1,18 @@
 use Rattle.std.proofs.Common.{◌≡◌, ◌≤◌, map, vec_len}
-use Rattle.listeners.specs.Ways.{AreByWay}
 use Rattle.script_run.specs.DrainSteps.{AreInDrainOrder}
 use Rattle.script_run.specs.PlayedParts.{IsPlayedInLine}
+use Rattle.script_run.specs.Keeps.{AreListenersKept}
 use Rattle.script_run.specs.RunStates.{run_at}
 use Rattle.script_run.proofs.run.ScriptRun.drain.Given as goal
 
 abbrev pub invariant-draining : goal.invariant-draining
 invariant-draining g l = record {
   count : vec_len l.listeners ≡ vec_len l.fn.listeners;
-  kinds : map (λ b. b.vtable) l.listeners.items ≡ map (λ b. b.vtable) l.fn.listeners.items;
-  ways : map (λ b. (goal.Listener-dyn g (b.vtable, b.value)).way b.value) l.listeners.items ≡ map (λ b. (goal.Listener-dyn g (b.vtable, b.value)).way b.value) l.fn.listeners.items;
-  by_way : AreByWay (λ b. (goal.Listener-dyn g (b.vtable, b.value)).way b.value) (λ b. (goal.Listener-dyn g (b.vtable, b.value)).rules b.value) (λ b. (goal.Listener-dyn g (b.vtable, b.value)).notes b.value) l.fn.listeners.items
-      → AreByWay (λ b. (goal.Listener-dyn g (b.vtable, b.value)).way b.value) (λ b. (goal.Listener-dyn g (b.vtable, b.value)).rules b.value) (λ b. (goal.Listener-dyn g (b.vtable, b.value)).notes b.value) l.listeners.items;
-  rules : map (λ b. (goal.Listener-dyn g (b.vtable, b.value)).rules b.value) l.listeners.items ≡ map (λ b. (goal.Listener-dyn g (b.vtable, b.value)).rules b.value) l.fn.listeners.items;
+  kept : AreListenersKept (λ b. b.vtable) (λ b. (goal.Listener-dyn g (b.vtable, b.value)).way b.value) (λ b. (goal.Listener-dyn g (b.vtable, b.value)).rules b.value) (λ b. (goal.Listener-dyn g (b.vtable, b.value)).notes b.value)
+      l.fn.listeners.items l.listeners.items;
   ran : IsPlayedInLine l.blobs (AreInDrainOrder l.blobs)
       (run_at l.fn.self (g.K.Sink.written l.fn.sink) (map (λ b. (goal.Listener-dyn g (b.vtable, b.value)).notes b.value) l.fn.listeners.items))
       (run_at l.self (g.K.Sink.written l.sink) (map (λ b. (goal.Listener-dyn g (b.vtable, b.value)).notes b.value) l.listeners.items));
-  no_fewer_faults : g.K.Sink.faults l.fn.sink ≤ g.K.Sink.faults l.sink;
   same_faults : g.K.Sink.faults l.sink ≡ g.K.Sink.faults l.fn.sink;
   left : l.self.left ≤ l.fn.self.left;
 }

@@ -1,10 +1,11 @@
 use Rattle.std.proofs.Common.{◌≡◌, ◌∙◌, refl, ap, arith}
 use Rattle.listeners.specs.Views.{RunView}
+use Rattle.script_run.proofs.KeptListeners.{kept_same, kept_then}
 use Rattle.script_run.proofs.DrainParts.{calm_then, fire_ran_order, fire_stop_order, order_none, order_then_ran, order_then_stop}
 use Rattle.script_run.proofs.run.ScriptRun.fire_all.Goals as goal
 
 pub firing-init : goal.firing-init
-firing-init g c = rw (← c.self.view_is) (record { count = refl; kinds = refl; ways = refl; by_way = λ h. h; rules = refl; ran = order_none _ _; no_fewer_faults = omega arith; same_faults = refl; left = refl; begun = refl; calm = record { buffers = refl; turns = refl } })
+firing-init g c = rw (← c.self.view_is) (record { count = refl; kept = kept_same _ _ _ _ _; ran = order_none _ _; same_faults = refl; left = refl; begun = refl; calm = record { buffers = refl; turns = refl } })
 
 pub returns-in-Err-clause-ran : goal.returns-in-Err-clause-ran
 returns-in-Err-clause-ran g c = order_then_stop _ c.in-Err.stop _ _ _ c.firing.invariant.ran (fire_stop_order _ _ _ _ c.in-Err.ensures.ran)
@@ -27,13 +28,9 @@ firing-preserved g c =
     let left : c.fire.new.self.left ≡ c.firing.self.left = omega (arith, seen, c.in-Ok-true.ensures.ran.left, c.firing.invariant.left, c.if-self-before.false) in
     record {
       count = c.fire.ensures.count ∙ c.firing.invariant.count;
-      kinds = c.fire.ensures.kinds ∙ c.firing.invariant.kinds;
-      ways = c.fire.ensures.ways ∙ c.firing.invariant.ways;
-      by_way = λ h. c.fire.ensures.by_way (c.firing.invariant.by_way h);
-      rules = c.fire.ensures.rules ∙ c.firing.invariant.rules;
+      kept = kept_then _ _ _ _ _ _ _ c.firing.invariant.kept c.fire.ensures.listeners;
       ran = order_then_ran _ _ _ _ c.firing.invariant.ran (fire_ran_order _ _ _ c.in-Ok-true.ensures.ran);
-      no_fewer_faults = omega (arith, c.firing.invariant.no_fewer_faults, c.fire.ensures.no_fewer_faults);
-      same_faults = c.in-Ok-true.ensures.failures_told (λ e. cc) ∙ c.firing.invariant.same_faults;
+      same_faults = c.in-Ok-true.ensures.failures.told (λ e. cc) ∙ c.firing.invariant.same_faults;
       left = left ∙ c.firing.invariant.left;
       begun = c.firing.invariant.begun;
       calm = calm_then _ _ _ c.firing.invariant.calm ((rw c.in-Ok-true.field-0-test at c.in-Ok-true.ensures.fewer) refl left).calm;

@@ -11,4 +11,4 @@ returns-in-Ok-clause-played g c =
     line_by c.args.blobs.now (limits c.args.limit (vec_len c.args.listeners.now)) c.args.n c.args.line.now _ _ _ _ _ _ _ c.open_line.ensures.standing c.open_line.ensures.sound (simp length-map (grind (arith, common_steps))) ran
 
 pub returns-in-Err-clause-played : goal.returns-in-Err-clause-played
-returns-in-Err-clause-played g c = rw c.in-Err.ensures.err (line_unopened _ _ _ _ _ _ _ _)
+returns-in-Err-clause-played g c = rw c.in-Err.ensures.err (line_unopened _ _ _ _ _ _ _)

@@ -2,18 +2,19 @@ use Rattle.std.proofs.Common.{◌≡◌, ◌∙◌, [], refl, sym, arith, true}
 use Rattle.mse_engine.specs.State.{State}
 use Rattle.mse_engine.specs.Standing.{IsStanding, Stands}
 use Rattle.mse_engine.specs.Work.{is_turn_due}
-use Rattle.script_run.proofs.PartsInRow.{halt_none}
+use Rattle.script_run.proofs.KeptListeners.{kept_same, kept_then}
+use Rattle.script_run.proofs.PartsInRow.{halt_none, memory_wanting}
 use Rattle.script_run.proofs.DrainParts.{did_turn, order_none, order_then_ran, order_then_stop, still_idle, turning_ran}
 use Rattle.script_run.proofs.run.ScriptRun.turn_all.Goals as goal
 
 pub turning-init : goal.turning-init
-turning-init g c = record { count = refl; kinds = refl; ways = refl; by_way = λ h. h; rules = refl; ran = order_none _ _; no_fewer_faults = omega arith; same_faults = refl; left = omega arith; quiet = c.requires.quiet }
+turning-init g c = record { count = refl; kept = kept_same _ _ _ _ _; ran = order_none _ _; same_faults = refl; left = omega arith; quiet = c.requires.quiet }
 
 pub returns-then-not-due-clause-nothing_left : goal.returns-then-not-due-clause-nothing_left
 returns-then-not-due-clause-nothing_left g c = λ e st h. record { quiet = c.turning.invariant.quiet st h; due = sym (c.due.ensures st (rw (← c.self.view_is) at h)) ∙ c.if-not-due.true }
 
 pub returns-in_default-clause-ran : goal.returns-in_default-clause-ran
-returns-in_default-clause-ran g c = rw c.in_default.ensures.err (order_then_stop _ _ _ _ _ c.turning.invariant.ran (halt_none _ _ _ _ (λ st h. tt)))
+returns-in_default-clause-ran g c = rw c.in_default.ensures.err (order_then_stop _ _ _ _ _ c.turning.invariant.ran (halt_none _ _ _ _ memory_wanting (λ st h. tt)))
 
 pub returns-in-Err-clause-ran : goal.returns-in-Err-clause-ran
 returns-in-Err-clause-ran g c =
@@ -51,13 +52,9 @@ turning-preserved g c =
     let buffers : c.fire_all.new.self.engine.buffers ≡ c.turning.self.engine.buffers = ((rw c.in-Ok-true.field-0-test at c.in-Ok-true.ensures.calm) refl).buffers ∙ taken.buffers in
     record {
       count = c.fire_all.ensures.count ∙ c.turning.invariant.count;
-      kinds = c.fire_all.ensures.kinds ∙ c.turning.invariant.kinds;
-      ways = c.fire_all.ensures.ways ∙ c.turning.invariant.ways;
-      by_way = λ h. c.fire_all.ensures.by_way (c.turning.invariant.by_way h);
-      rules = c.fire_all.ensures.rules ∙ c.turning.invariant.rules;
+      kept = kept_then _ _ _ _ _ _ _ c.turning.invariant.kept c.fire_all.ensures.listeners;
       ran = all;
-      no_fewer_faults = omega (arith, c.turning.invariant.no_fewer_faults, c.fire_all.ensures.no_fewer_faults);
-      same_faults = c.in-Ok-true.ensures.failures_told (λ e. cc) ∙ c.turning.invariant.same_faults;
+      same_faults = c.in-Ok-true.ensures.failures.told (λ e. cc) ∙ c.turning.invariant.same_faults;
       left = omega (arith, all.left);
       quiet = λ st h. record {
         queue = ((rw c.in-Ok-true.field-0-test at c.in-Ok-true.ensures.nothing_left) refl) st h;

@@ -3,12 +3,13 @@ use Rattle.std.specs.Prelude.{Some}
 use Rattle.mse_engine.specs.State.{State}
 use Rattle.mse_engine.specs.Standing.{IsStanding, Stands}
 use Rattle.mse_engine.specs.Work.{running_in}
-use Rattle.script_run.proofs.PartsInRow.{halt_none}
+use Rattle.script_run.proofs.KeptListeners.{kept_same, kept_then}
+use Rattle.script_run.proofs.PartsInRow.{halt_none, memory_wanting}
 use Rattle.script_run.proofs.DrainParts.{did_work, order_none, order_then_ran, order_then_stop, working_ran}
 use Rattle.script_run.proofs.run.ScriptRun.work_all.Goals as goal
 
 pub working-init : goal.working-init
-working-init g c = record { count = refl; kinds = refl; ways = refl; by_way = λ h. h; rules = refl; ran = order_none _ _; no_fewer_faults = omega arith; same_faults = refl; left = omega arith }
+working-init g c = record { count = refl; kept = kept_same _ _ _ _ _; ran = order_none _ _; same_faults = refl; left = omega arith }
 
 pub returns-in-Err-clause-ran : goal.returns-in-Err-clause-ran
 returns-in-Err-clause-ran g c = order_then_stop _ c.in-Err.stop _ _ _ c.working.invariant.ran c.in-Err.ensures.ran
@@ -24,7 +25,7 @@ returns-in_default-clause-nothing_left g c = λ e st h. record { queue = ((rw c.
 
 pub returns-in_default-work-clause-ran : goal.returns-in_default-work-clause-ran
 returns-in_default-work-clause-ran g c =
-    rw c.in_default-work.ensures.err (order_then_stop _ _ _ _ _ (order_then_ran _ _ _ _ c.working.invariant.ran c.in-Ok-true.ensures.ran) (halt_none _ _ _ _ (λ st h. tt)))
+    rw c.in_default-work.ensures.err (order_then_stop _ _ _ _ _ (order_then_ran _ _ _ _ c.working.invariant.ran c.in-Ok-true.ensures.ran) (halt_none _ _ _ _ memory_wanting (λ st h. tt)))
 
 pub working-preserved : goal.working-preserved
 working-preserved g c =
@@ -34,13 +35,9 @@ working-preserved g c =
     let step = working_ran c.args.blobs.now c.in-Some.k c.in-Ok._has_worked c.fire_all.new.self c.work.new.self _ _ stands ((rw c.in-Ok-true.field-0-test at c.in-Ok-true.ensures.nothing_left) refl) runs (c.in-Ok.ensures.ok c.args.blobs.now) in
     record {
       count = c.fire_all.ensures.count ∙ c.working.invariant.count;
-      kinds = c.fire_all.ensures.kinds ∙ c.working.invariant.kinds;
-      ways = c.fire_all.ensures.ways ∙ c.working.invariant.ways;
-      by_way = λ h. c.fire_all.ensures.by_way (c.working.invariant.by_way h);
-      rules = c.fire_all.ensures.rules ∙ c.working.invariant.rules;
+      kept = kept_then _ _ _ _ _ _ _ c.working.invariant.kept c.fire_all.ensures.listeners;
       ran = order_then_ran _ _ _ _ both step;
-      no_fewer_faults = omega (arith, c.working.invariant.no_fewer_faults, c.fire_all.ensures.no_fewer_faults);
-      same_faults = c.in-Ok-true.ensures.failures_told (λ e. cc) ∙ c.working.invariant.same_faults;
+      same_faults = c.in-Ok-true.ensures.failures.told (λ e. cc) ∙ c.working.invariant.same_faults;
       left = omega (arith, both.left, step.left);
     }
 

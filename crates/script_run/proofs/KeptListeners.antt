@@ -1,0 +1,19 @@
+-- Listeners that are kept, one step after another.
+use Rattle.std.proofs.Common.{◌∙◌, List, refl}
+use Rattle.std.specs.Prelude.{Option}
+use Rattle.mse_calls.specs.declared.rules.Rule.{Rule}
+use Rattle.listeners.specs.declared.listener.Note.{Note}
+use Rattle.listeners.specs.Ways.{Way}
+use Rattle.script_run.specs.Keeps.{AreListenersKept}
+
+pub kept_same : {A K : Type 0} (kind : A → K) (way : A → Option Way) (rules : A → List Rule) (notes : A → List Note) (all : List A) → AreListenersKept kind way rules notes all all
+kept_same kind way rules notes all = record { kinds = refl; ways = refl; rules_are = refl; by_way = λ h. h }
+
+pub kept_then : {A K : Type 0} (kind : A → K) (way : A → Option Way) (rules : A → List Rule) (notes : A → List Note) (a b c : List A) → AreListenersKept kind way rules notes a b → AreListenersKept kind way rules notes b c
+    → AreListenersKept kind way rules notes a c
+kept_then kind way rules notes a b c p q = record {
+  kinds = q.kinds ∙ p.kinds;
+  ways = q.ways ∙ p.ways;
+  rules_are = q.rules_are ∙ p.rules_are;
+  by_way = λ h. q.by_way (p.by_way h);
+}
