@@ -8,7 +8,7 @@ use Rattle.call_script.specs.declared.script.StepLine.{StepLine}
 use Rattle.mse_engine.specs.State.{Core, State, core_of}
 use Rattle.cut_law.specs.Plays.{play_of}
 use Rattle.cut_law.specs.Room.{IsUnmet}
-use Rattle.cut_law.specs.Cuts.{append_lines, bytes_of_pieces, cut_script, joined, whole_script, AreCuts, Cut, IsAwaited, IsInParts}
+use Rattle.cut_law.specs.Cuts.{append_lines, bytes_of_pieces, cut_script, joined_bytes, whole_script, AreCuts, Cut, IsAwaited, IsInParts}
 use Rattle.cut_law.specs.Outcomes.{core_outcome, AreAlike}
 use Rattle.cut_law.proofs.Drains.{append_core, drain_core, lowest, lowest-is, append-rests, cut-core}
 use Rattle.cut_law.proofs.Journals.{append_some, core_play, play-append, play-core, unmet-front}
@@ -26,7 +26,7 @@ pub record AreJoined (a b : Option (List ℕ)) (bytes : List ℕ) : Type 0 where
 some-injects : {A : Type 0} (x y : A) → ◌≡◌ {A = Option A} (Some x) (Some y) → x ≡ y
 some-injects x y e = cc
 
-pub parted : (a b : Option (List ℕ)) (bytes : List ℕ) → joined a b ≡ Some bytes → AreJoined a b bytes
+pub parted : (a b : Option (List ℕ)) (bytes : List ℕ) → joined_bytes a b ≡ Some bytes → AreJoined a b bytes
 parted None b bytes e = absurd (cc)
 parted (Some x) None bytes e = absurd (cc)
 parted (Some x) (Some y) bytes e = record { first = x; more = y; first_is = refl; more_is = refl; bytes_are = some-injects (x ++ y) bytes e }

@@ -6,7 +6,7 @@ use Rattle.std.proofs.lemmas.List.{drop-drop}
 use Rattle.std.proofs.Math.Seq.{take-add}
 use Rattle.mse_calls.specs.Pieces.{part_of, bytes_of}
 use Rattle.mse_calls.specs.declared.calls.Piece.{Piece}
-use Rattle.cut_law.specs.Cuts.{bytes_of_pieces, joined}
+use Rattle.cut_law.specs.Cuts.{bytes_of_pieces, joined_bytes}
 
 -- where a part of some bytes starts and how long it is; all of them where no part is told
 abbrev pub extent_of : Option (ℕ × ℕ) → List ℕ → ℕ × ℕ
@@ -61,7 +61,7 @@ parts-joined (piece ∷ pieces) blobs blob start total bytes e p l =
     let fits : start + p.0 ≤ length bytes = omega (arith, l, all) in
     let left : start + p.0 + p.1 ≤ length bytes = omega (arith, l, all) in
     let a : List ℕ = take p.0 (drop start bytes) in
-    ap (λ o. joined o (bytes_of_pieces blobs pieces)) (piece-bytes blobs piece blob start p.0 bytes e p.2 p.3 fits)
-    ∙ ap (λ o. joined (Some a) o) (parts-joined pieces blobs blob (start + p.0) p.1 bytes e p.5 left)
+    ap (λ o. joined_bytes o (bytes_of_pieces blobs pieces)) (piece-bytes blobs piece blob start p.0 bytes e p.2 p.3 fits)
+    ∙ ap (λ o. joined_bytes (Some a) o) (parts-joined pieces blobs blob (start + p.0) p.1 bytes e p.5 left)
     ∙ ap (λ xs. Some xs) (two-takes start p.0 p.1 bytes)
     ∙ ap (λ n. Some (take n (drop start bytes))) (sym all)

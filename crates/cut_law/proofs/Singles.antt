@@ -14,9 +14,9 @@ use Rattle.mse_engine.specs.State.{State}
 use Rattle.mse_engine.specs.Work.{after_work, after_element_turn, fire_result, running_in, is_turn_due}
 use Rattle.mse_engine.specs.Run.{entry_meaning, step_meaning, fire_meaning, after_entries, IsReplay, fire_entries, entries_if}
 use Rattle.script_run.specs.DrainSteps.{IsDrain, IsNextStep, IsAtRest, AreInDrainOrder}
-use Rattle.script_run.specs.Turns.{ListenerTurn, first_turn, AreInTurn, calls_in}
+use Rattle.script_run.specs.Turns.{calls_in}
 use Rattle.script_run.specs.Lines.{own_of, IsLineEntries, Limits, IsWithin, PlayInputs, play_inputs}
-use Rattle.script_run.proofs.CallsInPlace.{in_place}
+use Rattle.script_run.proofs.CallsInRow.{silent_in_place}
 use Rattle.script_run.specs.Follows.{AreLinesDone}
 use Rattle.cut_law.specs.Plays.{after_entry, fired_entries, next_entry_by, next_entry, entries_behind, entries_then, drain_in, drain_entries, steps_left, line_entries, after_line, play_entries, play_of}
 use Rattle.cut_law.specs.Files.{after_piece}
@@ -160,17 +160,8 @@ quiet-drain blobs st part d q =
 
 -- ---- lines
 
-silent-turns : (count : ℕ) (turn : Option ListenerTurn) (xs : List Entry) → calls_in xs ≡ 0 → AreInTurn count turn xs
-silent-turns count turn [] q = tt
-silent-turns count turn (Listener w call answer ∷ xs) q = absurd (omega (arith, q))
-silent-turns count turn (Fired event ∷ xs) q = silent-turns count (Some first_turn) xs q
-silent-turns count turn (Script call answer ∷ xs) q = silent-turns count None xs q
-silent-turns count turn (Step n ∷ xs) q = silent-turns count None xs q
-silent-turns count turn (Work k ∷ xs) q = silent-turns count None xs q
-silent-turns count turn (Element ∷ xs) q = silent-turns count None xs q
-
 within : (limits : Limits) (xs : List Entry) → calls_in xs ≡ 0 → IsWithin limits xs
-within limits xs q = record { few = omega (arith, q); calls = in_place limits.count xs (silent-turns limits.count None xs q) }
+within limits xs q = record { few = omega (arith, q); calls = silent_in_place limits.count xs q }
 
 -- the entries of a line do what the line says, replay, and have no listener's call
 pub record IsReplayedLine (blobs : List (List ℕ)) (st : State) (line : StepLine) (part : List Entry) : Type 0 where

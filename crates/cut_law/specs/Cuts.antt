@@ -12,15 +12,15 @@ use Rattle.cut_law.specs.Room.{IsUnmet}
 
 -- ---- the bytes of parts
 
-abbrev pub joined : Option (List ℕ) → Option (List ℕ) → Option (List ℕ)
-joined None more = None
-joined (Some bytes) None = None
-joined (Some bytes) (Some more) = Some (bytes ++ more)
+abbrev pub joined_bytes : Option (List ℕ) → Option (List ℕ) → Option (List ℕ)
+joined_bytes None more = None
+joined_bytes (Some bytes) None = None
+joined_bytes (Some bytes) (Some more) = Some (bytes ++ more)
 
 -- the bytes of pieces, one piece behind the other, where each lies inside its blob
 abbrev pub bytes_of_pieces : List (List ℕ) → List Piece → Option (List ℕ)
 bytes_of_pieces blobs [] = Some []
-bytes_of_pieces blobs (piece ∷ pieces) = joined (bytes_of blobs piece) (bytes_of_pieces blobs pieces)
+bytes_of_pieces blobs (piece ∷ pieces) = joined_bytes (bytes_of blobs piece) (bytes_of_pieces blobs pieces)
 
 -- The piece lies inside its blob, and the parts, of which there is at least one, have together just its bytes.
 pub record IsInParts (blobs : List (List ℕ)) (piece : Piece) (parts : List Piece) : Type 0 where

@@ -1,6 +1,6 @@
 -- What `ranges` and `pieces` print of one file.
 use Rattle.std.proofs.Common.{◌≡◌, ℕ, ◌+◌, ◌≤◌, ◌<◌, ◌^◌, ◌-◌, ℤ, pos, Bool, true, false, List, [], ◌∷◌, ◌++◌, length, refl, ap, sym, subst, ◌∙◌, arith, ⊎_elim, inl, inr}
-use Rattle.std.specs.Prelude.{◌⊎◌, min, Option, Some, None, IfSome, IsSome, IsSomeAnd, is_some, Ok, ok_or, bytes_eq, codes, option_map, if◌then◌else◌}
+use Rattle.std.specs.Prelude.{min, Option, Some, None, IfSome, IsSome, IsSomeAnd, is_some, Ok, ok_or, bytes_eq, codes, option_map, if◌then◌else◌}
 use Rattle.std.proofs.lemmas.Bool.{cases_lt}
 use Rattle.bmff_boxes.specs.Reading.{◌>>=◌}
 use Rattle.std.specs.List.{concat}

@@ -14,7 +14,7 @@ use Rattle.mse_commands.specs.declared.ending.Status.TheVariants as status
 use Rattle.mse_commands.specs.Requests.{HasRequestOfWords, Request, Task, ByScript, request_in, opening_of}
 use Rattle.mse_commands.specs.Loads.{failures}
 use Rattle.mse_commands.specs.Files.{IsThrough}
-use Rattle.mse_commands.specs.Outcomes.{IsEndOfRun, IsEnding, Ending, Whole, OverLimit, CutShort, Refused, Unbegun, IsStatusOf, IsPrintedBy, IsRefusal, HasCause, RunOutcome, IsWholeRun}
+use Rattle.mse_commands.specs.Outcomes.{IsEndOfRun, IsEnding, Ending, Whole, OverLimit, CutShort, Refused, Unbegun, IsStatusOf, IsPrintedBy, IsCauseOfRefusal, HasCause, RunOutcome, IsWholeRun}
 use Rattle.mse_commands.proofs.RunEnds.{ran_through}
 use Rattle.mse_commands.specs.Complete.{IsCutAnywhere, IsComplete, IsUnhindered, IsRunToEnd}
 use Rattle.mse_commands.specs.Shown.{last_state}
@@ -22,7 +22,7 @@ use Rattle.mse_commands.specs.Shown.{last_state}
 -- ---- to the end
 
 -- a limit of calls stops no task that is unhindered, and no task is refused that there is but for a load that failed
-not_refused : (why : End) (request : Request) (task : Task) (left : RunOutcome) (a b : ℕ) → request.task ≡ Ok task → IsUnhindered task left (failures a b) → IsRefusal request left why → ⊥
+not_refused : (why : End) (request : Request) (task : Task) (left : RunOutcome) (a b : ℕ) → request.task ≡ Ok task → IsUnhindered task left (failures a b) → IsCauseOfRefusal request left why → ⊥
 not_refused (Read name) request task left a b is u p = u.loads_done p.0
 not_refused Memory request task left a b is u p = cc (sym p ∙ is)
 not_refused Write request task left a b is u p = cc (sym p ∙ is)

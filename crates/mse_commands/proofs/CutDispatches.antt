@@ -16,7 +16,7 @@ use Rattle.script_run.specs.declared.stop.Stop.{Stop}
 use Rattle.script_run.specs.Turns.{most_calls}
 use Rattle.mse_engine.specs.State.{State}
 use Rattle.mse_engine.specs.Run.{after_entries, IsReplay}
-use Rattle.mse_commands.specs.Played.{ListenerState, PlayState, Part, Turn, noted, behind, unless_stopped, and_then, turn_in, dispatch_then, dispatch_from}
+use Rattle.mse_commands.specs.Played.{ListenerState, PlayState, Part, TurnPart, with_notes, behind, unless_stopped, and_then, turn_in, dispatch_then, dispatch_from}
 use Rattle.mse_commands.proofs.ListenerAnswers.{AreAnswers, answers_parts}
 use Rattle.mse_commands.proofs.ListenerTurns.{made_entries, made_notes, whole_turn, one_turn, IsLimitAt, cut_turn_of, cut_turn, IsFront, front_turn}
 use Rattle.mse_commands.proofs.Dispatches.{split_turn, own_of_made, none_before, no_turn, length_both, length_made, others_of_made, count_of_made, count_of_others, one_more, replays_parts, after_both}
@@ -64,7 +64,7 @@ abbrev pub IsCutAt : Option Stop → ℕ → ℕ → ℕ → List Note → Type 
 IsCutAt None n rest w last = last ≡ []
 IsCutAt (Some stop) n rest w last = (call : Call) × (last ≡ Made call ∷ []) × IsLimitAt n rest w stop
 
-front_dispatch : (hs : List ListenerState) (next : State → ℕ → Part) (turn : Turn) (es : List Entry) → IsFront es turn.entries → IsFront es (dispatch_then hs next turn).entries
+front_dispatch : (hs : List ListenerState) (next : State → ℕ → Part) (turn : TurnPart) (es : List Entry) → IsFront es turn.entries → IsFront es (dispatch_then hs next turn).entries
 front_dispatch hs next turn es f = by turn.stop
   where
     by : (stop : Option Stop) → IsFront es (dispatch_then hs next (record turn { stop = stop })).entries
@@ -123,7 +123,7 @@ cut_dispatch (h ∷ hs) zero v n blobs event w es st left rest last end at turns
     let notes : call_notes w es ≡ made_notes ms = ap (call_notes w) mine ∙ own_of_made w ms [] ∙ append-nil (made_notes ms) in
     let count : call_count w es ≡ length ms = ap (call_count w) mine ∙ count_all_made w ms in
     let counted : call_count w es + n ≡ most_calls = subst (λ x. call_count x es + n ≡ most_calls) here few in
-    let heard : ListenerState = noted h (Heard event ∷ []) in
+    let heard : ListenerState = with_notes h (Heard event ∷ []) in
     let part : IsPartTo end (dispatch_from blobs event w (h ∷ hs) st left) blobs st rest (made_entries w ms) =
     cut_here end hs (dispatch_from blobs event (suc w) hs) ms most_calls n blobs w st left rest heard last (subst (λ xs. IsReplay blobs st xs) all r) (subst (λ ns. AreAnswers h.answers heard.notes (ns ++ last)) notes served)
     (omega (arith, counted, count)) (omega (arith, e, ap length all, length_made w ms)) (subst (λ x. IsCutAt end n rest x last) here c) in
@@ -138,7 +138,7 @@ cut_dispatch (h ∷ hs) (suc j) v n blobs event w es st left rest last end at tu
     let notes : call_notes w (mine ++ others) ≡ made_notes ms = own_of_made w ms others ∙ ap (λ ns. made_notes ms ++ ns) (none_before w (suc w) (v + 1) others (omega arith) s.3) ∙ append-nil (made_notes ms) in
     let middle : ℕ = rest + length others in
     let lens : left ≡ middle + length ms = omega (arith, e, ap length s.2, length_both mine others, length_made w ms) in
-    let heard : ListenerState = noted h (Heard event ∷ []) in
+    let heard : ListenerState = with_notes h (Heard event ∷ []) in
     let turn : turn_in most_calls blobs w st left heard ≡ whole_turn blobs w st middle heard ms =
     one_turn ms most_calls blobs w st left middle heard both.0 (subst (λ ns. AreAnswers h.answers heard.notes (ns ++ Rested ∷ [])) notes all.0) (omega (arith, count_of_made w ms others, all.1)) lens in
     let now : State = after_entries blobs st mine in

@@ -16,7 +16,7 @@ use Rattle.cut_law.specs.Plays.{steps_left}
 use Rattle.mse_engine.specs.Run.{after_entries, IsReplay}
 use Rattle.cut_law.specs.Plays.{after_entry, next_entry, next_entry_by}
 use Rattle.cut_law.proofs.DrainEnds.{work-falls, turn-falls}
-use Rattle.mse_commands.specs.Played.{ListenerState, PlayState, Part, Goings, behind, and_then, dispatch_from, fire_by, fire, if_called, fire_waiting, step_by, round_in, drain_in, drained}
+use Rattle.mse_commands.specs.Played.{ListenerState, PlayState, Part, DrainContinuations, behind, and_then, dispatch_from, fire_by, fire, if_called, fire_waiting, step_by, round_in, rounds_in, drain_played}
 use Rattle.mse_commands.proofs.Dispatches.{AreServed, heard_by, one_dispatch, replays_parts}
 use Rattle.mse_commands.proofs.Drains.{led, unled, led_unled, behind_led, first_waits, fired_state, quiet_round, led_case, if_same, if_other}
 use Rattle.mse_commands.proofs.CutDispatches.{IsPartTo, same_to, to_behind, to_then, none_to, IsCutAt, AreServedTo, cut_dispatch}
@@ -81,37 +81,37 @@ fired_cut blobs p rest event es end e r c l =
     (cut_dispatch p.listeners c.v c.v c.n blobs event 0 es (without_first p.state) p.left rest c.last end (omega arith) c.turns r c.served c.many c.cut (omega (arith, l, calls_all 0 (c.v + 1) es c.turns))))
 
 anew_cut : (m : ℕ) (blobs : List (List ℕ)) (now : PlayState) (rest : ℕ) (end : Option Stop) (es : List Entry) → now.left < m
-    → ((m2 : ℕ) → now.left ≤ m2 → IsPartTo end (round_in (suc (steps_left now.state)) blobs (drain_in m2 blobs) now) blobs now.state rest es)
-    → IsPartTo end (drain_in m blobs now) blobs now.state rest es
+    → ((m2 : ℕ) → now.left ≤ m2 → IsPartTo end (round_in (suc (steps_left now.state)) blobs (rounds_in m2 blobs) now) blobs now.state rest es)
+    → IsPartTo end (rounds_in m blobs now) blobs now.state rest es
 anew_cut zero blobs now rest end es lt f = absurd (omega (arith, lt))
 anew_cut (suc m2) blobs now rest end es lt f = f m2 (omega (arith, lt))
 
 one_cut_round : (k : ℕ) (es : List Entry) (n m : ℕ) (blobs : List (List ℕ)) (p : PlayState) (rest : ℕ) (end : Option Stop) → length es < k → IsCutDrainFrom blobs p rest end es → steps_left p.state < n → p.left ≤ m
-    → IsPartTo end (round_in n blobs (drain_in m blobs) p) blobs p.state rest es
+    → IsPartTo end (round_in n blobs (rounds_in m blobs) p) blobs p.state rest es
 one_cut_round zero es n m blobs p rest end short d steps calls = absurd (omega (arith, short))
 one_cut_round (suc k) es zero m blobs p rest end short d steps calls = absurd (omega (arith, steps))
-one_cut_round (suc k) [] (suc n) m blobs p rest end short d steps calls = none_to end (round_in (suc n) blobs (drain_in m blobs) p) blobs p.state rest [] d.served refl
+one_cut_round (suc k) [] (suc n) m blobs p rest end short d steps calls = none_to end (round_in (suc n) blobs (rounds_in m blobs) p) blobs p.state rest [] d.served refl
 one_cut_round (suc k) (Work b ∷ es) (suc n) m blobs p rest end short d steps calls =
     let now : PlayState = record p { state = after_entry blobs p.state (Work b) } in
     let later : IsCutDrainFrom blobs now rest end es = record { front = d.served.0; order = d.order.1; replays = d.replays.1; served = d.served.1; left = d.left } in
-    let same = quiet_round n blobs (drain_in m blobs) p d.order.0.0 ∙ ap (λ low. step_by blobs (round_in n blobs (drain_in m blobs)) p (next_entry_by low (is_turn_due p.state))) d.order.0.1 in
+    let same = quiet_round n blobs (rounds_in m blobs) p d.order.0.0 ∙ ap (λ low. step_by blobs (round_in n blobs (rounds_in m blobs)) p (next_entry_by low (is_turn_due p.state))) d.order.0.1 in
     same_to _ _ end blobs p.state rest (Work b ∷ es) same
-    (to_behind end (Work b ∷ []) es blobs p.state now.state rest (round_in n blobs (drain_in m blobs) now) refl (one_cut_round k es n m blobs now rest end (omega (arith, short)) later (omega (arith, work-falls blobs p.state b d.order.0.1, steps)) calls))
+    (to_behind end (Work b ∷ []) es blobs p.state now.state rest (round_in n blobs (rounds_in m blobs) now) refl (one_cut_round k es n m blobs now rest end (omega (arith, short)) later (omega (arith, work-falls blobs p.state b d.order.0.1, steps)) calls))
 one_cut_round (suc k) (Element ∷ es) (suc n) m blobs p rest end short d steps calls =
     let now : PlayState = record p { state = after_entry blobs p.state Element } in
     let later : IsCutDrainFrom blobs now rest end es = record { front = d.served.0; order = d.order.1; replays = d.replays.1; served = d.served.1; left = d.left } in
-    let same = quiet_round n blobs (drain_in m blobs) p d.order.0.0.queue ∙ ap (λ low. step_by blobs (round_in n blobs (drain_in m blobs)) p (next_entry_by low (is_turn_due p.state))) d.order.0.0.running
-    ∙ ap (λ due. step_by blobs (round_in n blobs (drain_in m blobs)) p (next_entry_by None due)) d.order.0.1 in
+    let same = quiet_round n blobs (rounds_in m blobs) p d.order.0.0.queue ∙ ap (λ low. step_by blobs (round_in n blobs (rounds_in m blobs)) p (next_entry_by low (is_turn_due p.state))) d.order.0.0.running
+    ∙ ap (λ due. step_by blobs (round_in n blobs (rounds_in m blobs)) p (next_entry_by None due)) d.order.0.1 in
     same_to _ _ end blobs p.state rest (Element ∷ es) same
-    (to_behind end (Element ∷ []) es blobs p.state now.state rest (round_in n blobs (drain_in m blobs) now) refl (one_cut_round k es n m blobs now rest end (omega (arith, short)) later (omega (arith, turn-falls blobs p.state d.order.0.0.running d.order.0.1, steps)) calls))
+    (to_behind end (Element ∷ []) es blobs p.state now.state rest (round_in n blobs (rounds_in m blobs) now) refl (one_cut_round k es n m blobs now rest end (omega (arith, short)) later (omega (arith, turn-falls blobs p.state d.order.0.0.running d.order.0.1, steps)) calls))
 one_cut_round (suc k) (Listener v call answer ∷ es) (suc n) m blobs p rest end short d steps calls = let none : Listener v call answer ∷ led es ≡ [] = d.front in absurd (cc)
 one_cut_round (suc k) (Step x ∷ es) (suc n) m blobs p rest end short d steps calls = absurd d.order.0
 one_cut_round (suc k) (Script call answer ∷ es) (suc n) m blobs p rest end short d steps calls = absurd d.order.0
 one_cut_round (suc k) (Fired event ∷ es) (suc n) m blobs p rest end short d steps calls =
     let st : State = without_first p.state in
     let waits = first_waits p.state.element.queue event d.order.0 in
-    let again : PlayState → Part = drain_in m blobs in
-    let g : Goings = record { again = again; next = λ now. step_by blobs (round_in n blobs again) now (next_entry now.state) } in
+    let again : PlayState → Part = rounds_in m blobs in
+    let g : DrainContinuations = record { again = again; next = λ now. step_by blobs (round_in n blobs again) now (next_entry now.state) } in
     let next : PlayState → Part = λ now. if_called (now.left == p.left) (fire_waiting waits.0 blobs g now) (again now) in
     let same = fired_state blobs p.state event d.order.0 in
     let replays : IsReplay blobs st es = subst (λ s. IsReplay blobs s es) same d.replays.1 in
@@ -147,6 +147,6 @@ one_cut_round (suc k) (Fired event ∷ es) (suc n) m blobs p rest end short d st
     ]
 
 -- entries of a drain that ended so are those of the play up to there
-pub one_cut_drain : (es : List Entry) (blobs : List (List ℕ)) (p : PlayState) (rest : ℕ) (end : Option Stop) → IsCutDrainFrom blobs p rest end es → IsPartTo end (drained blobs p) blobs p.state rest es
-unfolding drained
+pub one_cut_drain : (es : List Entry) (blobs : List (List ℕ)) (p : PlayState) (rest : ℕ) (end : Option Stop) → IsCutDrainFrom blobs p rest end es → IsPartTo end (drain_played blobs p) blobs p.state rest es
+unfolding drain_played
 one_cut_drain es blobs p rest end d = one_cut_round (suc (length es)) es (suc (steps_left p.state)) p.left blobs p rest end (omega arith) d (omega arith) (omega arith)

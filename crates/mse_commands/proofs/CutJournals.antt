@@ -9,10 +9,10 @@ use Rattle.listeners.specs.Dispatch.{AreCallsInTurn}
 use Rattle.script_run.specs.declared.stop.Stop.{Stop}
 use Rattle.script_run.specs.Follows.{AreLinesBegun}
 use Rattle.script_run.specs.Lines.{IsLineFront, Limits, PlayInputs, play_inputs}
-use Rattle.script_run.specs.Turns.{AreInTurn, HasCallsLeftInLine, calls_in, steps_in}
+use Rattle.script_run.specs.Turns.{HasCallsLeftInLine, calls_in, steps_in}
 use Rattle.script_run.proofs.CallsInPlace.{in_turn}
 use Rattle.script_run.proofs.CutDispatches.{no_step_in_line}
-use Rattle.script_run.proofs.ListenerTurns.{turns_then}
+use Rattle.script_run.proofs.ListenerTurns.{AreInTurn, turns_then}
 use Rattle.mse_engine.specs.State.{State}
 use Rattle.mse_engine.specs.Run.{after_entries, IsReplay}
 use Rattle.mse_commands.specs.Played.{ListenerState, PlayState, Part, nothing, behind, and_then, line_played, numbered_played, lines_played}

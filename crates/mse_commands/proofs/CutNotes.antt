@@ -17,8 +17,8 @@ use Rattle.script_run.specs.declared.stop.Stop.{Stop}
 use Rattle.script_run.specs.declared.stop.Stop.TheVariants.{CallBudget, TaskBudget}
 use Rattle.script_run.specs.NoteHistory.{IsAllHeard, note_history}
 use Rattle.script_run.specs.PlayedParts.{IsDispatchCut}
-use Rattle.script_run.specs.Turns.{AreInTurn, CallsLeft, ListenerTurn, first_turn, turn_after, most_calls}
-use Rattle.script_run.proofs.ListenerTurns.{turns_front}
+use Rattle.script_run.specs.Turns.{CallsLeft, most_calls}
+use Rattle.script_run.proofs.ListenerTurns.{AreInTurn, ListenerTurn, first_turn, turn_after, turns_front}
 use Rattle.mse_commands.specs.Played.{ListenerState}
 use Rattle.mse_commands.proofs.ListenerAnswers.{Answering, AreAnswers, answers_parts}
 use Rattle.mse_commands.proofs.Dispatches.{AreServed, heard_by, one_more}
@@ -73,7 +73,7 @@ told_more answers past (Told other ∷ notes) answer a = told_more answers (past
 told_more answers past (Rested ∷ notes) answer a = (a.0, told_more answers (past ++ Rested ∷ []) notes answer a.1)
 
 -- a listener that made no call has no notes of one
-none_called : (w : ℕ) (es : List Entry) → call_count w es ≡ 0 → call_notes w es ≡ []
+pub none_called : (w : ℕ) (es : List Entry) → call_count w es ≡ 0 → call_notes w es ≡ []
 none_called w [] e = refl
 none_called w (Listener v call answer ∷ es) e = elim (cases_eq v w) [
   | inl same ↦

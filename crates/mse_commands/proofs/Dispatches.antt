@@ -19,7 +19,7 @@ use Rattle.script_run.specs.Turns.{most_calls}
 use Rattle.mse_engine.specs.State.{State}
 use Rattle.mse_engine.specs.Run.{entry_meaning, after_entries, IsReplay}
 use Rattle.mse_commands.proofs.ListenerAnswers.{AreAnswers}
-use Rattle.mse_commands.specs.Played.{ListenerState, Part, noted, turn_in, dispatch_then, dispatch_from}
+use Rattle.mse_commands.specs.Played.{ListenerState, Part, with_notes, turn_in, dispatch_then, dispatch_from}
 use Rattle.mse_commands.proofs.ListenerTurns.{made_entries, made_notes, whole_turn, one_turn}
 
 -- the calls of listener w come first, and behind them those of later ones
@@ -101,7 +101,7 @@ AreServed event w es (h ∷ hs) =
 
 abbrev pub heard_by : Event → ℕ → List Entry → List ListenerState → List ListenerState
 heard_by event w es [] = []
-heard_by event w es (h ∷ hs) = noted h (event_notes event w es) ∷ heard_by event (suc w) es hs
+heard_by event w es (h ∷ hs) = with_notes h (event_notes event w es) ∷ heard_by event (suc w) es hs
 
 served_behind : (event : Event) (w k : ℕ) (ms : List (Call × Answer)) (rest : List Entry) (hs : List ListenerState) → w < k → AreServed event k (made_entries w ms ++ rest) hs → AreServed event k rest hs
 served_behind event w k ms rest [] lt a = tt
@@ -114,8 +114,8 @@ served_behind event w k ms rest (h ∷ hs) lt a = (
 heard_behind : (event : Event) (w k : ℕ) (ms : List (Call × Answer)) (rest : List Entry) (hs : List ListenerState) → w < k → heard_by event k (made_entries w ms ++ rest) hs ≡ heard_by event k rest hs
 heard_behind event w k ms rest [] lt = refl
 heard_behind event w k ms rest (h ∷ hs) lt =
-    ap (λ (ns : List Note). noted h (Heard event ∷ (ns ++ Rested ∷ [])) ∷ heard_by event (suc k) (made_entries w ms ++ rest) hs) (others_of_made w k ms rest lt)
-    ∙ ap (λ (xs : List ListenerState). noted h (event_notes event k rest) ∷ xs) (heard_behind event w (suc k) ms rest hs (omega (arith, lt)))
+    ap (λ (ns : List Note). with_notes h (Heard event ∷ (ns ++ Rested ∷ [])) ∷ heard_by event (suc k) (made_entries w ms ++ rest) hs) (others_of_made w k ms rest lt)
+    ∙ ap (λ (xs : List ListenerState). with_notes h (event_notes event k rest) ∷ xs) (heard_behind event w (suc k) ms rest hs (omega (arith, lt)))
 
 pub no_turn : (w : ℕ) (es : List Entry) → AreCallsInTurn w (w + 0) es → es ≡ []
 no_turn w [] a = refl
@@ -168,7 +168,7 @@ one_dispatch (h ∷ hs) blobs event w es st left rest turns r served e =
     let few : length ms ≤ most_calls = omega (arith, count_of_made w ms others, all.1) in
     let middle : ℕ = rest + length others in
     let lens : left ≡ middle + length ms = omega (arith, e, ap length s.2, length_both mine others, length_made w ms) in
-    let heard : ListenerState = noted h (Heard event ∷ []) in
+    let heard : ListenerState = with_notes h (Heard event ∷ []) in
     let turn : turn_in most_calls blobs w st left heard ≡ whole_turn blobs w st middle heard ms =
     one_turn ms most_calls blobs w st left middle heard both.0 (subst (λ ns. AreAnswers h.answers heard.notes (ns ++ Rested ∷ [])) notes all.0) few lens in
     let now : State = after_entries blobs st mine in
@@ -177,8 +177,8 @@ one_dispatch (h ∷ hs) blobs event w es st left rest turns r served e =
     let own : heard.notes ++ (made_notes ms ++ Rested ∷ []) ≡ h.notes ++ event_notes event w (mine ++ others) =
     append_assoc h.notes (Heard event ∷ []) (made_notes ms ++ Rested ∷ []) ∙ ap (λ ns. h.notes ++ (Heard event ∷ (ns ++ Rested ∷ []))) (sym notes) in
     ap (dispatch_then hs (dispatch_from blobs event (suc w) hs)) turn
-    ∙ ap (λ (part : Part). record part { entries = mine ++ part.entries; now = record part.now { listeners = noted heard (made_notes ms ++ Rested ∷ []) ∷ part.now.listeners } }) tail
-    ∙ ap (λ (last : State). record { entries = mine ++ others; now = record { state = last; left = rest; listeners = noted heard (made_notes ms ++ Rested ∷ []) ∷ heard_by event (suc w) others hs }; stop = None }) (sym (after_both blobs st mine others))
+    ∙ ap (λ (part : Part). record part { entries = mine ++ part.entries; now = record part.now { listeners = with_notes heard (made_notes ms ++ Rested ∷ []) ∷ part.now.listeners } }) tail
+    ∙ ap (λ (last : State). record { entries = mine ++ others; now = record { state = last; left = rest; listeners = with_notes heard (made_notes ms ++ Rested ∷ []) ∷ heard_by event (suc w) others hs }; stop = None }) (sym (after_both blobs st mine others))
     ∙ ap (λ (ns : List Note). record { entries = mine ++ others; now = record { state = after_entries blobs st (mine ++ others); left = rest; listeners = record h { notes = ns } ∷ heard_by event (suc w) others hs }; stop = None }) own
-    ∙ ap (λ (xs : List ListenerState). record { entries = mine ++ others; now = record { state = after_entries blobs st (mine ++ others); left = rest; listeners = noted h (event_notes event w (mine ++ others)) ∷ xs }; stop = None }) (sym (heard_behind event w (suc w) ms others hs (omega arith)))
+    ∙ ap (λ (xs : List ListenerState). record { entries = mine ++ others; now = record { state = after_entries blobs st (mine ++ others); left = rest; listeners = with_notes h (event_notes event w (mine ++ others)) ∷ xs }; stop = None }) (sym (heard_behind event w (suc w) ms others hs (omega arith)))
     ∙ ap (λ (xs : List Entry). whole_dispatch blobs event w xs st rest (h ∷ hs)) (sym s.2)

@@ -16,6 +16,7 @@ use Rattle.mse_engine.specs.Views.{view_in}
 use Rattle.mse_engine.proofs.Transitions.{goes_none}
 use Rattle.event_text.specs.Block.{closing_text}
 use Rattle.listeners.specs.declared.listener.Note.{Note}
+use Rattle.listeners.specs.declared.event_dispatch.DispatchFault.TheVariants as fault
 use Rattle.remux.specs.Pieces.{pieces_of_file}
 use Rattle.script_run.specs.declared.stop.Halt.{Halt}
 use Rattle.script_run.specs.declared.stop.Halt.TheVariants as halt
@@ -24,19 +25,18 @@ use Rattle.script_run.specs.declared.stop.Stop.TheVariants as stop
 use Rattle.script_run.specs.Follows.{AreLinesBegun, AreLinesDone}
 use Rattle.script_run.specs.Lines.{Limits, limits, play_inputs}
 use Rattle.listeners.specs.Views.{RunView}
-use Rattle.script_run.specs.RunStates.{RunState, printed_run}
+use Rattle.script_run.specs.RunStates.{RunState, outside_in, outside_view, printed_run}
 use Rattle.script_run.specs.Text.{lines_in, lines_of}
 use Rattle.script_run.specs.Turns.{HasCallsLeftInLine}
 use Rattle.script_run.specs.Writes.{IsWritten, IsFrontWritten}
-use Rattle.script_run.proofs.CutDispatches.{heard_to_all}
-use Rattle.script_run.proofs.JournalNotes.{heard_none}
-use Rattle.script_run.proofs.PartsInRow.{last_alone}
-use Rattle.script_run.proofs.PutLines.{front_none, wrote_more, wrote_none}
+use Rattle.script_run.proofs.PartsInRow.{IsWanting, memory_wanting, sink_wanting, stopped_none}
+use Rattle.script_run.proofs.PutLines.{wrote_more, wrote_none}
+use Rattle.script_run.proofs.StoppedParts.{at_limit}
 use Rattle.mse_commands.specs.declared.ending.End.{End}
 use Rattle.mse_commands.specs.declared.ending.End.TheVariants.{Memory, Write, Words, NoFile, Read, Script, CallBudget, TaskBudget}
 use Rattle.mse_commands.specs.declared.words.Command.{Command}
 use Rattle.mse_commands.specs.declared.words.Command.TheVariants.{Ranges, Pieces, Make, Play, Remux, Feed}
-use Rattle.mse_commands.specs.Requests.{IsFileCommand, IsLackOf, IsReadOf, IsTaskOf, HasRequestOfCommand, Request, Task, ByScript, ByFile, ByRemux, blobs_bytes, file_by, file_request, file_task, files_by, files_in, files_of_script, file_bytes, opening_of, remux_request, remux_task, request_of, script_of_file, script_request, script_task}
+use Rattle.mse_commands.specs.Requests.{IsFileCommand, IsLackOf, IsReadOf, IsTaskOf, HasRequestOfCommand, Request, Task, ByScript, ByFile, ByRemux, blobs_bytes, file_by, file_request, file_task, files_by, blob_file_names, files_of_script, file_bytes, opening_of, remux_request, remux_task, request_of, script_of_file, script_request, script_task}
 use Rattle.mse_commands.specs.Loads.{IsMade, IsReached, IsUnmade, IsLoadEnd, IsScriptEnd, failures}
 use Rattle.mse_commands.specs.Endings.{end_of_halt}
 use Rattle.mse_commands.specs.Outcomes.{IsRun, RunOutcome, IsWholeRun, outcome, outside_of}
@@ -177,10 +177,10 @@ file_ran command bytes a b es after stands goes entries engine = record {
 }
 
 -- a front was appended, and nothing written
-file_begun : (count : ℕ) (h : Halt) (command : Command) (bytes : List ℕ) (a b : RunView) (w0 w1 : SinkView) (f0 f1 : ℕ) (notes : List (List Note)) (rules : List (List Rule))
+file_begun : (count : ℕ) (stop : Stop) (command : Command) (bytes : List ℕ) (a b : RunView) (w0 w1 : SinkView) (f0 f1 : ℕ) (notes : List (List Note)) (rules : List (List Rule))
     → Stands a.engine (opening_of (ByFile command bytes)) → a.entries ≡ [] → IsPartAppended bytes (pieces_by command (length bytes)) a b → w1 ≡ w0
-    → IsSomeDone count h (ByFile command bytes) (outcome b.entries (Some b.engine) (outside_of f0 w0 notes rules) (outside_of f1 w1 notes rules))
-file_begun count h command bytes a b w0 w1 f0 f1 notes rules stands fresh p same =
+    → IsSomeDone count stop (ByFile command bytes) (outcome b.entries (Some b.engine) (outside_of f0 w0 notes rules) (outside_of f1 w1 notes rules))
+file_begun count stop command bytes a b w0 w1 f0 f1 notes rules stands fresh p same =
     let es : List Entry = p.entries in
     let task : Task = ByFile command bytes in
     let all : b.entries ≡ es = p.grew.grew ∙ ap (λ (x : List Entry). x ++ es) fresh in
@@ -190,16 +190,15 @@ file_begun count h command bytes a b w0 w1 f0 f1 notes rules stands fresh p same
         front = rw all (p.grew.holds (opening_of task) stands);
         rules = refl;
       };
-      heard = refl;
-      wrote = inl same;
+      came = inl (refl, same);
     }
 
 -- all was appended, and a front of the text was written
-file_half : (count : ℕ) (h : Halt) (command : Command) (bytes : List ℕ) (a b : RunView) (w0 w1 : SinkView) (f0 f1 : ℕ) (notes : List (List Note)) (rules : List (List Rule))
+file_half : (count : ℕ) (stop : Stop) (command : Command) (bytes : List ℕ) (a b : RunView) (w0 w1 : SinkView) (f0 f1 : ℕ) (notes : List (List Note)) (rules : List (List Rule))
     → Stands a.engine (opening_of (ByFile command bytes)) → a.entries ≡ [] → IsAppended bytes (pieces_by command (length bytes)) a b
     → IsFrontShown (file_closing command (length bytes)) b w0 w1
-    → IsSomeDone count h (ByFile command bytes) (outcome b.entries (Some b.engine) (outside_of f0 w0 notes rules) (outside_of f1 w1 notes rules))
-file_half count h command bytes a b w0 w1 f0 f1 notes rules stands fresh p shown =
+    → IsSomeDone count stop (ByFile command bytes) (outcome b.entries (Some b.engine) (outside_of f0 w0 notes rules) (outside_of f1 w1 notes rules))
+file_half count stop command bytes a b w0 w1 f0 f1 notes rules stands fresh p shown =
     let es : List Entry = p.entries in
     let task : Task = ByFile command bytes in
     let all : b.entries ≡ es = p.grew.grew ∙ ap (λ (x : List Entry). x ++ es) fresh in
@@ -211,15 +210,14 @@ file_half count h command bytes a b w0 w1 f0 f1 notes rules stands fresh p shown
         front = rw all ([], subst (λ (x : List Entry). IsWholeFile (bytes ∷ []) (opening_of task) (pieces_by command (length bytes)) x) (sym (append-nil es)) whole);
         rules = refl;
       };
-      heard = refl;
-      wrote = rw all (inr (whole, (refl, refl), record { middle = w0; wrote = wrote_none w0; front = shown (last_state task es) last }));
+      came = rw all (inr (whole, (refl, refl), record { middle = w0; wrote = wrote_none w0; front = shown (last_state task es) last }));
     }
 
-file_front : (count : ℕ) (h : Halt) (command : Command) (bytes : List ℕ) (a b : RunView) (w0 w1 : SinkView) (f0 f1 : ℕ) (notes : List (List Note)) (rules : List (List Rule))
+file_front : (count : ℕ) (stop : Stop) (command : Command) (bytes : List ℕ) (a b : RunView) (w0 w1 : SinkView) (f0 f1 : ℕ) (notes : List (List Note)) (rules : List (List Rule))
     → Stands a.engine (opening_of (ByFile command bytes)) → a.entries ≡ [] → IsFileFrontShown command bytes (printed_run a w0) (printed_run b w1)
-    → IsSomeDone count h (ByFile command bytes) (outcome b.entries (Some b.engine) (outside_of f0 w0 notes rules) (outside_of f1 w1 notes rules))
-file_front count h command bytes a b w0 w1 f0 f1 notes rules stands fresh (inl p) = file_begun count h command bytes a b w0 w1 f0 f1 notes rules stands fresh p.0 p.1
-file_front count h command bytes a b w0 w1 f0 f1 notes rules stands fresh (inr p) = file_half count h command bytes a b w0 w1 f0 f1 notes rules stands fresh p.0 p.1
+    → IsSomeDone count stop (ByFile command bytes) (outcome b.entries (Some b.engine) (outside_of f0 w0 notes rules) (outside_of f1 w1 notes rules))
+file_front count stop command bytes a b w0 w1 f0 f1 notes rules stands fresh (inl p) = file_begun count stop command bytes a b w0 w1 f0 f1 notes rules stands fresh p.0 p.1
+file_front count stop command bytes a b w0 w1 f0 f1 notes rules stands fresh (inr p) = file_half count stop command bytes a b w0 w1 f0 f1 notes rules stands fresh p.0 p.1
 
 pub file_worked : (count : ℕ) (request : Request) (command : Command) (bytes : List ℕ) (a b : RunView) (w0 w1 : SinkView) (f0 f1 : ℕ) (notes : List (List Note)) (rules : List (List Rule))
     (result : Result Bool End) → Stands a.engine (opening_of (ByFile command bytes)) → a.entries ≡ [] → IsFileShowResult command bytes (printed_run a w0) (printed_run b w1) result
@@ -238,8 +236,8 @@ file_worked count request command bytes a b w0 w1 f0 f1 notes rules (Ok broken) 
       };
       broken_is = rw all (p.broken_is (last_state task es) last);
     }
-file_worked count request command bytes a b w0 w1 f0 f1 notes rules (Err Memory) stands fresh p = inr (file_front count halt.Memory command bytes a b w0 w1 f0 f1 notes rules stands fresh p)
-file_worked count request command bytes a b w0 w1 f0 f1 notes rules (Err Write) stands fresh p = file_front count halt.Write command bytes a b w0 w1 f0 f1 notes rules stands fresh p
+file_worked count request command bytes a b w0 w1 f0 f1 notes rules (Err Memory) stands fresh p = inr (file_front count stop.Memory command bytes a b w0 w1 f0 f1 notes rules stands fresh p)
+file_worked count request command bytes a b w0 w1 f0 f1 notes rules (Err Write) stands fresh p = file_front count stop.Write command bytes a b w0 w1 f0 f1 notes rules stands fresh p
 file_worked count request command bytes a b w0 w1 f0 f1 notes rules (Err Words) stands fresh p = absurd p
 file_worked count request command bytes a b w0 w1 f0 f1 notes rules (Err (NoFile name)) stands fresh p = absurd p
 file_worked count request command bytes a b w0 w1 f0 f1 notes rules (Err (Read name)) stands fresh p = absurd p
@@ -310,18 +308,17 @@ remux_whole count request bytes a b w0 w1 notes rules broken wrote is = record {
   broken_is = is;
 }
 
-remux_some : (count : ℕ) (h : Halt) (bytes : List ℕ) (a b : ℕ) (w0 w1 : SinkView) (notes : List (List Note)) (rules : List (List Rule)) → IsFrontWritten (remux_pieces bytes) w0 w1
-    → IsSomeDone count h (ByRemux bytes) (outcome [] None (outside_of a w0 notes rules) (outside_of b w1 notes rules))
-remux_some count h bytes a b w0 w1 notes rules wrote = record {
+remux_some : (count : ℕ) (stop : Stop) (bytes : List ℕ) (a b : ℕ) (w0 w1 : SinkView) (notes : List (List Note)) (rules : List (List Rule)) → IsFrontWritten (remux_pieces bytes) w0 w1
+    → IsSomeDone count stop (ByRemux bytes) (outcome [] None (outside_of a w0 notes rules) (outside_of b w1 notes rules))
+remux_some count stop bytes a b w0 w1 notes rules wrote = record {
   ran = record { run = remux_ran bytes a b w0 w1 notes rules; front = refl; rules = refl };
-  heard = refl;
-  wrote = inr (refl, (refl, refl), record { middle = w0; wrote = wrote_none w0; front = wrote });
+  came = inr (refl, (refl, refl), record { middle = w0; wrote = wrote_none w0; front = wrote });
 }
 
 remux_half : (count : ℕ) (request : Request) (h : Halt) (bytes : List ℕ) (a b : ℕ) (w0 w1 : SinkView) (notes : List (List Note)) (rules : List (List Rule)) → IsFrontWritten (remux_pieces bytes) w0 w1
     → IsTaskDone count request (ByRemux bytes) (outcome [] None (outside_of a w0 notes rules) (outside_of b w1 notes rules)) (Err (end_of_halt h))
-remux_half count request halt.Memory bytes a b w0 w1 notes rules wrote = inr (remux_some count halt.Memory bytes a b w0 w1 notes rules wrote)
-remux_half count request halt.Write bytes a b w0 w1 notes rules wrote = remux_some count halt.Write bytes a b w0 w1 notes rules wrote
+remux_half count request halt.Memory bytes a b w0 w1 notes rules wrote = inr (remux_some count stop.Memory bytes a b w0 w1 notes rules wrote)
+remux_half count request halt.Write bytes a b w0 w1 notes rules wrote = remux_some count stop.Write bytes a b w0 w1 notes rules wrote
 
 -- what is asked for where the file is there
 remux_asked : (table : Option Table) (name bytes : List ℕ) (count : ℕ) (after : RunOutcome) (result : Result Bool End) → IfSome table (λ files. file_bytes files name ≡ Ok bytes)
@@ -380,12 +377,12 @@ script_not_loaded (Some files) a b name end entries engine written count notes r
 
 pub blobs_not_loaded : (table : Option Table) (a b c : ℕ) (name : List ℕ) (script : CallScript) (end : End) (entries : List Entry) (engine : Option KeptEngine) (written : SinkView)
     (count : ℕ) (notes : List (List Note)) (rules : List (List Rule)) → entries ≡ [] → engine ≡ None → a ≤ b → IfSome table (λ files. script_of_file files name ≡ Ok script)
-    → IsLoadEnd table (failures b c) (files_in script.blobs) (λ files. blobs_bytes files script.blobs) end
+    → IsLoadEnd table (failures b c) (blob_file_names script.blobs) (λ files. blobs_bytes files script.blobs) end
     → HasRequestOfCommand table name (Some Play) (λ request. IsRequestDone count request (outcome entries engine (outside_of a written notes rules) (outside_of c written notes rules)) (Err end))
 blobs_not_loaded None a b c name script end entries engine written count notes rules none nothing before is p =
-    rw (none, nothing) (untold_file count name Play (outcome [] None (outside_of a written notes rules) (outside_of c written notes rules)) (files_in script.blobs) (λ files. blobs_bytes files script.blobs) end (λ other. tt)
+    rw (none, nothing) (untold_file count name Play (outcome [] None (outside_of a written notes rules) (outside_of c written notes rules)) (blob_file_names script.blobs) (λ files. blobs_bytes files script.blobs) end (λ other. tt)
     (did_nothing a c written notes rules)
-    (end_as None a b c c (files_in script.blobs) (files_in script.blobs) (λ files. blobs_bytes files script.blobs) (λ files. blobs_bytes files script.blobs) end
+    (end_as None a b c c (blob_file_names script.blobs) (blob_file_names script.blobs) (λ files. blobs_bytes files script.blobs) (λ files. blobs_bytes files script.blobs) end
     before (omega arith) (λ x n e q. q) (λ x e q. q) p))
 blobs_not_loaded (Some files) a b c name script end entries engine written count notes rules none nothing before is p =
     let after : RunOutcome = outcome [] None (outside_of a written notes rules) (outside_of c written notes rules) in
@@ -393,18 +390,18 @@ blobs_not_loaded (Some files) a b c name script end entries engine written count
       script_request files name,
       refl,
       not_loaded_by count (script_request files name) (script_task files name) after end (did_nothing a c written notes rules)
-          (told_file files (script_request files name) (script_task files name) after (files_in script.blobs) (blobs_bytes files script.blobs) end (blobs_fail files name script end is) reaches
-          (end_as (Some files) a b c c (files_in script.blobs) (files_in script.blobs) (λ files. blobs_bytes files script.blobs) (λ x. blobs_bytes files script.blobs) end
+          (told_file files (script_request files name) (script_task files name) after (blob_file_names script.blobs) (blobs_bytes files script.blobs) end (blobs_fail files name script end is) reaches
+          (end_as (Some files) a b c c (blob_file_names script.blobs) (blob_file_names script.blobs) (λ files. blobs_bytes files script.blobs) (λ x. blobs_bytes files script.blobs) end
           before (omega arith) (λ x n e q. q) (λ x e q. same_table x e q) p)),
     )
   where
     same_table : (x : Table) → Some files ≡ Some x → blobs_bytes x script.blobs ≡ Err end → blobs_bytes files script.blobs ≡ Err end
     same_table x e q = let same : files ≡ x = cc in rw same q
 
-    reaches : (n : List ℕ) → IsReached files (files_in script.blobs) n → IsReached files (script_request files name).names n
+    reaches : (n : List ℕ) → IsReached files (blob_file_names script.blobs) n → IsReached files (script_request files name).names n
     reaches n q =
-        let names : files_of_script (script_of_file files name) ≡ files_in script.blobs = ap files_of_script is in
-        rw names (reached_behind files name n (files_in script.blobs) (script_there files name script is) q)
+        let names : files_of_script (script_of_file files name) ≡ blob_file_names script.blobs = ap files_of_script is in
+        rw names (reached_behind files name n (blob_file_names script.blobs) (script_there files name script is) q)
 
 -- ---- a script that was run
 
@@ -442,8 +439,8 @@ module _ (count : ℕ) (request : Request) (script : CallScript) (blobs : List (
         heard = (p.rules_are, rw all p.played.heard);
       }
 
-  script_half : (h : Halt) → IsScriptHalfPlayed (script_inputs count script blobs) r1 a b → IsSomeDone count h (ByScript script blobs) (outcome b.run.entries (Some b.run.engine) (outside_of f0 a.written a.notes r0) (outside_of f1 b.written b.notes r1))
-  script_half h p =
+  script_half : (s : Stop) → IsScriptHalfPlayed (script_inputs count script blobs) r1 a b → IsSomeDone count s (ByScript script blobs) (outcome b.run.entries (Some b.run.engine) (outside_of f0 a.written a.notes r0) (outside_of f1 b.written b.notes r1))
+  script_half s p =
       let es : List Entry = p.played.entries in
       let all : b.run.entries ≡ es = all_of es p.played.grew.grew in
       let last : Stands b.run.engine (last_state (ByScript script blobs) es) = p.played.grew.goes.stands (opening_of (ByScript script blobs)) stands in
@@ -453,8 +450,7 @@ module _ (count : ℕ) (request : Request) (script : CallScript) (blobs : List (
           front = rw all (whole_begun blobs (limits script.drain count) 0 (opening_of (ByScript script blobs)) script.steps es (p.played.grew.holds (opening_of (ByScript script blobs)) stands));
           rules = inr p.rules_are;
         };
-        heard = rw all (heard_to_all (HasCallsLeftInLine script.drain) h es a.notes b.notes p.played.heard);
-        wrote = rw all (inr (p.played.grew.holds (opening_of (ByScript script blobs)) stands, (p.rules_are, p.played.heard), record { middle = p.middle; wrote = p.played.wrote; front = p.shown (last_state (ByScript script blobs) es) last }));
+        came = rw all (inr (p.played.grew.holds (opening_of (ByScript script blobs)) stands, (p.rules_are, p.played.heard), record { middle = p.middle; wrote = p.played.wrote; front = p.shown (last_state (ByScript script blobs) es) last }));
       }
 
   -- it stopped in a line
@@ -469,19 +465,14 @@ module _ (count : ℕ) (request : Request) (script : CallScript) (blobs : List (
         rules = inr p.rules_are;
       }
 
-  script_halted : (h : Halt) → IsScriptStopped (script_inputs count script blobs) r1 a b (stop.Halted h)
-      → IsSomeDone count h (ByScript script blobs) (outcome b.run.entries (Some b.run.engine) (outside_of f0 a.written a.notes r0) (outside_of f1 b.written b.notes r1))
-  script_halted h p =
-      let es : List Entry = p.played.entries in
-      let all : b.run.entries ≡ es = all_of es p.played.grew.grew in
-      record {
-        ran = script_front (stop.Halted h) p;
-        heard = rw all p.played.stopped.1;
-        wrote = inl (rw all p.played.stopped.0);
-      }
+  script_stopped : (s : Stop) → IsScriptStopped (script_inputs count script blobs) r1 a b s
+      → IsSomeDone count s (ByScript script blobs) (outcome b.run.entries (Some b.run.engine) (outside_of f0 a.written a.notes r0) (outside_of f1 b.written b.notes r1))
+  script_stopped s p =
+      let all : b.run.entries ≡ p.played.entries = all_of p.played.entries p.played.grew.grew in
+      record { ran = script_front s p; came = inl (rw all p.played.stopped) }
 
-  script_unplayed : (h : Halt) → IsScriptUnplayed a b → IsSomeDone count h (ByScript script blobs) (outcome b.run.entries (Some b.run.engine) (outside_of f0 a.written a.notes r0) (outside_of f1 b.written b.notes r1))
-  script_unplayed h p =
+  script_unplayed : (s : Stop) → IsWanting s → IsScriptUnplayed a b → IsSomeDone count s (ByScript script blobs) (outcome b.run.entries (Some b.run.engine) (outside_of f0 a.written a.notes r0) (outside_of f1 b.written b.notes r1))
+  script_unplayed s wanting p =
       let all : b.run.entries ≡ [] = ap (λ (r : RunView). r.entries) p.run ∙ fresh in
       let engine : b.run.engine ≡ a.run.engine = ap (λ (r : RunView). r.engine) p.run in
       record {
@@ -491,15 +482,14 @@ module _ (count : ℕ) (request : Request) (script : CallScript) (blobs : List (
           front = rw all (none_begun blobs (limits script.drain count) 0 (opening_of (ByScript script blobs)) script.steps);
           rules = inl all;
         };
-        heard = rw (all, p.notes) (heard_to_all (HasCallsLeftInLine script.drain) h [] a.notes a.notes (heard_none a.notes));
-        wrote = inl (rw (all, p.written) (last_alone [] a.written a.written tt (front_none a.written [])));
+        came = inl (rw (all, p.written, p.notes) (stopped_none (HasCallsLeftInLine script.drain) s (outside_view a.written a.notes) wanting));
       }
 
-  script_short : (h : Halt) → IsScriptCutShort (script_inputs count script blobs) r1 a b h
-      → IsSomeDone count h (ByScript script blobs) (outcome b.run.entries (Some b.run.engine) (outside_of f0 a.written a.notes r0) (outside_of f1 b.written b.notes r1))
-  script_short h (inl p) = script_unplayed h p
-  script_short h (inr (inl p)) = script_halted h p
-  script_short h (inr (inr p)) = script_half h p
+  script_short : (s : Stop) → IsWanting s → IsScriptCutShort (script_inputs count script blobs) r1 a b s
+      → IsSomeDone count s (ByScript script blobs) (outcome b.run.entries (Some b.run.engine) (outside_of f0 a.written a.notes r0) (outside_of f1 b.written b.notes r1))
+  script_short s wanting (inl p) = script_unplayed s wanting p
+  script_short s wanting (inr (inl p)) = script_stopped s p
+  script_short s wanting (inr (inr p)) = script_half s p
 
   -- a listener made too many calls
   script_cut : (k : ℕ) (p : IsScriptStopped (script_inputs count script blobs) r1 a b (stop.CallBudget k))
@@ -507,28 +497,22 @@ module _ (count : ℕ) (request : Request) (script : CallScript) (blobs : List (
   script_cut k p =
       let es : List Entry = p.played.entries in
       let all : b.run.entries ≡ es = all_of es p.played.grew.grew in
-      record {
-        ran = script_front (stop.CallBudget k) p;
-        cause = rw all p.played.stopped.1;
-        wrote = rw all p.played.stopped.0;
-      }
+      let cut = at_limit (HasCallsLeftInLine script.drain) (fault.CallBudget k) es (outside_in a) (outside_in b) (λ e. cc (e)) p.played.stopped in
+      record { ran = script_front (stop.CallBudget k) p; cause = rw all cut.0; wrote = rw all cut.1 }
 
   script_spent : (p : IsScriptStopped (script_inputs count script blobs) r1 a b stop.TaskBudget)
       → IsDoneUpTo count (ByScript script blobs) (outcome b.run.entries (Some b.run.engine) (outside_of f0 a.written a.notes r0) (outside_of f1 b.written b.notes r1)) (TaskBudget script.drain)
   script_spent p =
       let es : List Entry = p.played.entries in
       let all : b.run.entries ≡ es = all_of es p.played.grew.grew in
-      record {
-        ran = script_front stop.TaskBudget p;
-        cause = (refl, rw all p.played.stopped.1);
-        wrote = rw all p.played.stopped.0;
-      }
+      let cut = at_limit (HasCallsLeftInLine script.drain) fault.TaskBudget es (outside_in a) (outside_in b) (λ e. cc (e)) p.played.stopped in
+      record { ran = script_front stop.TaskBudget p; cause = (refl, rw all cut.0); wrote = rw all cut.1 }
 
   pub script_worked : (result : Result Bool End) → IsScriptShowResult (script_inputs count script blobs) r1 a b result
       → IsTaskDone count request (ByScript script blobs) (outcome b.run.entries (Some b.run.engine) (outside_of f0 a.written a.notes r0) (outside_of f1 b.written b.notes r1)) result
   script_worked (Ok broken) p = record { ran = script_whole p.1; broken_is = p.0 }
-  script_worked (Err Memory) p = inr (script_short halt.Memory p)
-  script_worked (Err Write) p = script_short halt.Write p
+  script_worked (Err Memory) p = inr (script_short stop.Memory memory_wanting p)
+  script_worked (Err Write) p = script_short stop.Write sink_wanting p
   script_worked (Err (CallBudget k)) p = script_cut k p
   script_worked (Err (TaskBudget limit)) p =
       subst (λ (x : ℕ). IsDoneUpTo count (ByScript script blobs) (outcome b.run.entries (Some b.run.engine) (outside_of f0 a.written a.notes r0) (outside_of f1 b.written b.notes r1)) (TaskBudget x)) (sym p.0) (script_spent p.1)

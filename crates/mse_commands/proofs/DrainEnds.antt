@@ -15,7 +15,7 @@ use Rattle.mse_engine.specs.Work.{without_first, running_in, is_turn_due}
 use Rattle.cut_law.specs.Plays.{steps_left}
 use Rattle.cut_law.specs.Plays.{after_entry, next_entry, next_entry_by}
 use Rattle.cut_law.proofs.DrainEnds.{work-falls, turn-falls}
-use Rattle.mse_commands.specs.Played.{ListenerState, PlayState, Part, Turn, Goings, behind, unless_stopped, and_then, noted, turn_full, turn_by, turn_in, dispatch_then, dispatch_from, fire_by, fire, if_called, fire_waiting, step_by, one_entry, round_in, drain_in, drained}
+use Rattle.mse_commands.specs.Played.{ListenerState, PlayState, Part, TurnPart, DrainContinuations, behind, unless_stopped, and_then, with_notes, turn_full, turn_by, turn_in, dispatch_then, dispatch_from, fire_by, fire, if_called, fire_waiting, step_by, one_entry, round_in, rounds_in, drain_played}
 
 -- no more calls are left than before, and where as many are the state is as before
 abbrev pub IsStill : State → ℕ → State → ℕ → Type 0
@@ -31,14 +31,14 @@ turn_full_still : (w : ℕ) (st : State) (left : ℕ) (h : ListenerState) (call 
 turn_full_still w st left h None = still st left
 turn_full_still w st left h (Some call) = still st left
 
-turn_by_still : (go : State → ℕ → ListenerState → Turn) (blobs : List (List ℕ)) (w : ℕ) (st : State) (left : ℕ) (h : ListenerState) (call : Option Call)
+turn_by_still : (go : State → ℕ → ListenerState → TurnPart) (blobs : List (List ℕ)) (w : ℕ) (st : State) (left : ℕ) (h : ListenerState) (call : Option Call)
     → ((new : State) (rest : ℕ) (h : ListenerState) → IsStill new rest (go new rest h).state (go new rest h).left)
     → IsStill st left (turn_by go blobs w st left h call).state (turn_by go blobs w st left h call).left
 turn_by_still go blobs w st left h None f = still st left
 turn_by_still go blobs w st zero h (Some call) f = still st 0
 turn_by_still go blobs w st (suc left) h (Some call) f =
     let made = after_call blobs call st in
-    let h2 : ListenerState = noted h (Made call ∷ Told made.answer ∷ []) in
+    let h2 : ListenerState = with_notes h (Made call ∷ Told made.answer ∷ []) in
     fewer st (go made.state left h2).state (suc left) (go made.state left h2).left (omega (arith, (f made.state left h2).0))
 
 turn_still : (n : ℕ) (blobs : List (List ℕ)) (w : ℕ) (st : State) (left : ℕ) (h : ListenerState) → IsStill st left (turn_in n blobs w st left h).state (turn_in n blobs w st left h).left
@@ -49,7 +49,7 @@ turn_still (suc n) blobs w st left h = turn_by_still (turn_in n blobs w) blobs w
 then_still : (a b c : State) (l m n : ℕ) → IsStill a l b m → IsStill b m c n → IsStill a l c n
 then_still a b c l m n p q = (omega (arith, p.0, q.0), λ e. q.1 (omega (arith, p.0, q.0, e)) ∙ p.1 (omega (arith, p.0, q.0, e)))
 
-dispatch_then_still : (hs : List ListenerState) (next : State → ℕ → Part) (st : State) (left : ℕ) (turn : Turn) (stop : Option Stop) → IsStill st left turn.state turn.left
+dispatch_then_still : (hs : List ListenerState) (next : State → ℕ → Part) (st : State) (left : ℕ) (turn : TurnPart) (stop : Option Stop) → IsStill st left turn.state turn.left
     → ((new : State) (rest : ℕ) → IsStill new rest (next new rest).now.state (next new rest).now.left)
     → IsStill st left (dispatch_then hs next (record turn { stop = stop })).now.state (dispatch_then hs next (record turn { stop = stop })).now.left
 dispatch_then_still hs next st left turn None s f = then_still st turn.state (next turn.state turn.left).now.state left turn.left (next turn.state turn.left).now.left s (f turn.state turn.left)
@@ -59,8 +59,8 @@ dispatch_still : (blobs : List (List ℕ)) (event : Event) (w : ℕ) (hs : List 
     → IsStill st left (dispatch_from blobs event w hs st left).now.state (dispatch_from blobs event w hs st left).now.left
 dispatch_still blobs event w [] st left = still st left
 dispatch_still blobs event w (h ∷ hs) st left =
-    let turn : Turn = turn_in most_calls blobs w st left (noted h (Heard event ∷ [])) in
-    dispatch_then_still hs (dispatch_from blobs event (suc w) hs) st left turn turn.stop (turn_still most_calls blobs w st left (noted h (Heard event ∷ []))) (λ new rest. dispatch_still blobs event (suc w) hs new rest)
+    let turn : TurnPart = turn_in most_calls blobs w st left (with_notes h (Heard event ∷ [])) in
+    dispatch_then_still hs (dispatch_from blobs event (suc w) hs) st left turn turn.stop (turn_still most_calls blobs w st left (with_notes h (Heard event ∷ []))) (λ new rest. dispatch_still blobs event (suc w) hs new rest)
 
 -- ---- what is said of a part that does not stop
 
@@ -100,7 +100,7 @@ pub record IsFiredOut (p now : PlayState) : Type 0 where
   pub steps : steps_left now.state ≡ steps_left p.state
   pub left : now.left ≡ p.left
 
-fired_rests : (events : List Event) (blobs : List (List ℕ)) (g : Goings) (p : PlayState) → p.state.element.queue ≡ events
+fired_rests : (events : List Event) (blobs : List (List ℕ)) (g : DrainContinuations) (p : PlayState) → p.state.element.queue ≡ events
     → ((now : PlayState) → now.left < p.left → Rests (g.again now)) → ((now : PlayState) → IsFiredOut p now → Rests (g.next now))
     → Rests (fire_waiting events blobs g p)
 fired_rests [] blobs g p e again next = next p (record { queue = e; steps = refl; left = refl })
@@ -134,11 +134,11 @@ round_rests (suc n) blobs again p l f =
     (λ now out. step_rests (running_in now.state) (is_turn_due now.state) n blobs (round_in n blobs again) now refl refl out.queue (omega (arith, out.steps, l))
     (λ later same less. round_rests n blobs again later less (λ new fewer_left. f new (omega (arith, fewer_left, same, out.left)))))
 
-drain_rests : (n : ℕ) (blobs : List (List ℕ)) (p : PlayState) → p.left < n → Rests (drain_in n blobs p)
+drain_rests : (n : ℕ) (blobs : List (List ℕ)) (p : PlayState) → p.left < n → Rests (rounds_in n blobs p)
 drain_rests zero blobs p l = absurd (omega (arith, l))
-drain_rests (suc n) blobs p l = round_rests (suc (steps_left p.state)) blobs (drain_in n blobs) p (omega arith) (λ now less. drain_rests n blobs now (omega (arith, less, l)))
+drain_rests (suc n) blobs p l = round_rests (suc (steps_left p.state)) blobs (rounds_in n blobs) p (omega arith) (λ now less. drain_rests n blobs now (omega (arith, less, l)))
 
 -- a drain that does not stop ends where there is nothing left to do
-pub drained_rests : (blobs : List (List ℕ)) (p : PlayState) → (drained blobs p).stop ≡ None → IsAtRest (drained blobs p).now.state
-unfolding drained
+pub drained_rests : (blobs : List (List ℕ)) (p : PlayState) → (drain_played blobs p).stop ≡ None → IsAtRest (drain_played blobs p).now.state
+unfolding drain_played
 drained_rests blobs p e = drain_rests (suc p.left) blobs p (omega arith) e

@@ -14,7 +14,7 @@ use Rattle.cut_law.specs.Plays.{steps_left}
 use Rattle.mse_engine.specs.Run.{entry_meaning, fire_meaning, after_entries, IsReplay}
 use Rattle.cut_law.specs.Plays.{after_entry, next_entry, next_entry_by}
 use Rattle.cut_law.proofs.DrainEnds.{work-falls, turn-falls}
-use Rattle.mse_commands.specs.Played.{ListenerState, PlayState, Part, Goings, nothing, behind, and_then, fire_by, fire, if_called, fire_waiting, step_by, round_in, drain_in, drained}
+use Rattle.mse_commands.specs.Played.{ListenerState, PlayState, Part, DrainContinuations, nothing, behind, and_then, fire_by, fire, if_called, fire_waiting, step_by, round_in, rounds_in, drain_played}
 use Rattle.mse_commands.proofs.Dispatches.{AreServed, heard_by, one_dispatch, replays_parts, after_both}
 
 -- the calls in front, and what comes behind them
@@ -199,32 +199,32 @@ if_other now left same called ne = ap (λ b. if_called b same called) (ne_eqb no
 
 -- entries of a whole drain are those of a round, and of rounds begun anew, with fuel enough
 one_round : (k : ℕ) (es : List Entry) (n m : ℕ) (blobs : List (List ℕ)) (p : PlayState) (rest : ℕ) → length es < k → IsDrainFrom blobs p rest es → steps_left p.state < n → p.left ≤ m
-    → round_in n blobs (drain_in m blobs) p ≡ whole_part blobs p rest es
+    → round_in n blobs (rounds_in m blobs) p ≡ whole_part blobs p rest es
 one_round zero es n m blobs p rest short d steps calls = absurd (omega (arith, short))
 one_round (suc k) es zero m blobs p rest short d steps calls = absurd (omega (arith, steps))
 one_round (suc k) [] (suc n) m blobs p rest short d steps calls =
     let left : p.left ≡ rest = omega (arith, d.left) in
-    quiet_round n blobs (drain_in m blobs) p d.end.quiet.queue
-    ∙ ap (λ low. step_by blobs (round_in n blobs (drain_in m blobs)) p (next_entry_by low (is_turn_due p.state))) d.end.quiet.running
-    ∙ ap (λ due. step_by blobs (round_in n blobs (drain_in m blobs)) p (next_entry_by None due)) d.end.due
+    quiet_round n blobs (rounds_in m blobs) p d.end.quiet.queue
+    ∙ ap (λ low. step_by blobs (round_in n blobs (rounds_in m blobs)) p (next_entry_by low (is_turn_due p.state))) d.end.quiet.running
+    ∙ ap (λ due. step_by blobs (round_in n blobs (rounds_in m blobs)) p (next_entry_by None due)) d.end.due
     ∙ ap (λ (l : ℕ). nothing (record p { left = l })) left
 one_round (suc k) (Work b ∷ es) (suc n) m blobs p rest short d steps calls =
     let now : PlayState = record p { state = after_entry blobs p.state (Work b) } in
     let later : IsDrainFrom blobs now rest es = record { front = d.served.0; order = d.order.1; end = d.end; replays = d.replays.1; served = d.served.1; left = d.left } in
-    quiet_round n blobs (drain_in m blobs) p d.order.0.0
-    ∙ ap (λ low. step_by blobs (round_in n blobs (drain_in m blobs)) p (next_entry_by low (is_turn_due p.state))) d.order.0.1
+    quiet_round n blobs (rounds_in m blobs) p d.order.0.0
+    ∙ ap (λ low. step_by blobs (round_in n blobs (rounds_in m blobs)) p (next_entry_by low (is_turn_due p.state))) d.order.0.1
     ∙ ap (behind (Work b ∷ [])) (one_round k es n m blobs now rest (omega (arith, short)) later (omega (arith, work-falls blobs p.state b d.order.0.1, steps)) calls)
 one_round (suc k) (Element ∷ es) (suc n) m blobs p rest short d steps calls =
     let now : PlayState = record p { state = after_entry blobs p.state Element } in
     let later : IsDrainFrom blobs now rest es = record { front = d.served.0; order = d.order.1; end = d.end; replays = d.replays.1; served = d.served.1; left = d.left } in
-    quiet_round n blobs (drain_in m blobs) p d.order.0.0.queue
-    ∙ ap (λ low. step_by blobs (round_in n blobs (drain_in m blobs)) p (next_entry_by low (is_turn_due p.state))) d.order.0.0.running
-    ∙ ap (λ due. step_by blobs (round_in n blobs (drain_in m blobs)) p (next_entry_by None due)) d.order.0.1
+    quiet_round n blobs (rounds_in m blobs) p d.order.0.0.queue
+    ∙ ap (λ low. step_by blobs (round_in n blobs (rounds_in m blobs)) p (next_entry_by low (is_turn_due p.state))) d.order.0.0.running
+    ∙ ap (λ due. step_by blobs (round_in n blobs (rounds_in m blobs)) p (next_entry_by None due)) d.order.0.1
     ∙ ap (behind (Element ∷ [])) (one_round k es n m blobs now rest (omega (arith, short)) later (omega (arith, turn-falls blobs p.state d.order.0.0.running d.order.0.1, steps)) calls)
 one_round (suc k) (Fired event ∷ es) (suc n) m blobs p rest short d steps calls =
     let waits = first_waits p.state.element.queue event d.order.0 in
-    let again : PlayState → Part = drain_in m blobs in
-    let g : Goings = record { again = again; next = λ now. step_by blobs (round_in n blobs again) now (next_entry now.state) } in
+    let again : PlayState → Part = rounds_in m blobs in
+    let g : DrainContinuations = record { again = again; next = λ now. step_by blobs (round_in n blobs again) now (next_entry now.state) } in
     let middle : ℕ = rest + calls_in (unled es) in
     let now : PlayState = now_behind blobs p event middle es in
     let later = fired_behind blobs p rest event es d in
@@ -248,8 +248,8 @@ one_round (suc k) (Fired event ∷ es) (suc n) m blobs p rest short d steps call
   where
     anew : (m : ℕ) → (now_behind blobs p event (rest + calls_in (unled es)) es).left < m
         → ((m2 : ℕ) → (now_behind blobs p event (rest + calls_in (unled es)) es).left ≤ m2
-        → round_in (suc (steps_left (now_behind blobs p event (rest + calls_in (unled es)) es).state)) blobs (drain_in m2 blobs) (now_behind blobs p event (rest + calls_in (unled es)) es) ≡ whole_part blobs (now_behind blobs p event (rest + calls_in (unled es)) es) rest (unled es))
-        → drain_in m blobs (now_behind blobs p event (rest + calls_in (unled es)) es) ≡ whole_part blobs (now_behind blobs p event (rest + calls_in (unled es)) es) rest (unled es)
+        → round_in (suc (steps_left (now_behind blobs p event (rest + calls_in (unled es)) es).state)) blobs (rounds_in m2 blobs) (now_behind blobs p event (rest + calls_in (unled es)) es) ≡ whole_part blobs (now_behind blobs p event (rest + calls_in (unled es)) es) rest (unled es))
+        → rounds_in m blobs (now_behind blobs p event (rest + calls_in (unled es)) es) ≡ whole_part blobs (now_behind blobs p event (rest + calls_in (unled es)) es) rest (unled es)
     anew zero lt f = absurd (omega (arith, lt))
     anew (suc m2) lt f = f m2 (omega (arith, lt))
 one_round (suc k) (Listener v call answer ∷ es) (suc n) m blobs p rest short d steps calls = let none : Listener v call answer ∷ led es ≡ [] = d.front in absurd (cc)
@@ -257,6 +257,6 @@ one_round (suc k) (Step x ∷ es) (suc n) m blobs p rest short d steps calls = a
 one_round (suc k) (Script call answer ∷ es) (suc n) m blobs p rest short d steps calls = absurd d.order.0
 
 -- entries of a whole drain are those of the play
-pub one_drain : (es : List Entry) (blobs : List (List ℕ)) (p : PlayState) (rest : ℕ) → IsDrainFrom blobs p rest es → drained blobs p ≡ whole_part blobs p rest es
-unfolding drained
+pub one_drain : (es : List Entry) (blobs : List (List ℕ)) (p : PlayState) (rest : ℕ) → IsDrainFrom blobs p rest es → drain_played blobs p ≡ whole_part blobs p rest es
+unfolding drain_played
 one_drain es blobs p rest d = one_round (suc (length es)) es (suc (steps_left p.state)) p.left blobs p rest (omega arith) d (omega arith) (omega arith)

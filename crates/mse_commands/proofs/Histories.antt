@@ -15,7 +15,8 @@ use Rattle.listeners.specs.declared.listener.Note.TheVariants.{Heard, Rested}
 use Rattle.listeners.specs.Notes.{entry_notes, is_call_of, call_notes, call_count, event_notes}
 use Rattle.listeners.specs.Dispatch.{AreCallsInTurn}
 use Rattle.script_run.specs.NoteHistory.{entries_until_event, note_history}
-use Rattle.script_run.specs.Turns.{ListenerTurn, first_turn, most_calls, turn_after, AreInTurn}
+use Rattle.script_run.specs.Turns.{most_calls}
+use Rattle.script_run.proofs.ListenerTurns.{AreInTurn, ListenerTurn, first_turn, turn_after}
 use Rattle.mse_commands.proofs.ListenerAnswers.{AreAnswers, answers_parts}
 use Rattle.mse_commands.specs.Played.{ListenerState}
 use Rattle.mse_commands.proofs.Dispatches.{AreServed, heard_by, one_more}

@@ -1,5 +1,5 @@
 -- A whole journal is the one of the play.
-use Rattle.std.proofs.Common.{◌≡◌, ℕ, suc, ◌+◌, ◌-◌, List, [], ◌∷◌, ◌++◌, length, refl, ap, sym, subst, ◌∙◌, arith}
+use Rattle.std.proofs.Common.{◌≡◌, ℕ, suc, ◌-◌, List, [], ◌∷◌, ◌++◌, length, refl, ap, sym, subst, ◌∙◌, arith}
 use Rattle.std.specs.Prelude.{None}
 use Rattle.mse_calls.specs.declared.entry.Entry.{Entry}
 use Rattle.mse_calls.specs.declared.entry.Entry.TheVariants.{Step, Script, Listener, Fired, Work, Element}
@@ -7,9 +7,9 @@ use Rattle.call_script.specs.declared.script.StepLine.{StepLine}
 use Rattle.listeners.specs.Dispatch.{AreCallsInTurn}
 use Rattle.script_run.specs.Lines.{Limits, PlayInputs, play_inputs}
 use Rattle.script_run.specs.Follows.{AreLinesDone}
-use Rattle.script_run.specs.Turns.{AreInTurn, calls_in}
+use Rattle.script_run.specs.Turns.{calls_in}
 use Rattle.script_run.proofs.CallsInPlace.{in_turn}
-use Rattle.script_run.proofs.ListenerTurns.{turns_then}
+use Rattle.script_run.proofs.ListenerTurns.{AreInTurn, turns_then}
 use Rattle.mse_engine.specs.State.{State}
 use Rattle.mse_engine.specs.Run.{after_entries, IsReplay}
 use Rattle.mse_commands.specs.Played.{ListenerState, PlayState, Part, behind, and_then, line_played, lines_played}

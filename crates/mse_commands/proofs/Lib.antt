@@ -29,6 +29,8 @@ pub mod ByWays
 pub mod WholeFiles
 pub mod Outputs
 pub mod OneOutput
+pub mod OwnAnswers
 pub mod OwnDispatches
 pub mod OwnJournals
+pub mod PlayedCuts
 pub mod ProgramRuns

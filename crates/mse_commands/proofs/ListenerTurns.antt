@@ -12,7 +12,7 @@ use Rattle.script_run.specs.declared.stop.Stop.TheVariants.{CallBudget, TaskBudg
 use Rattle.mse_engine.specs.State.{State}
 use Rattle.mse_engine.specs.Calls.{after_call}
 use Rattle.mse_engine.specs.Run.{after_entries, IsReplay}
-use Rattle.mse_commands.specs.Played.{ListenerState, Turn, noted, turn_rested, turn_stopped, turn_behind, turn_full, turn_call, turn_by, turn_in}
+use Rattle.mse_commands.specs.Played.{ListenerState, TurnPart, with_notes, turn_rested, turn_stopped, turn_behind, turn_full, turn_call, turn_by, turn_in}
 use Rattle.mse_commands.proofs.ListenerAnswers.{AreAnswers}
 
 -- the entries and the notes of calls with their answers
@@ -29,11 +29,11 @@ pair_notes m = Made m.0 ∷ Told m.1 ∷ []
 
 -- a call that is answered is made, and the turn goes on
 one_made : (n : ℕ) (blobs : List (List ℕ)) (w : ℕ) (st : State) (left : ℕ) (h : ListenerState) (m : Call × Answer) → h.answers h.notes ≡ Some m.0 → m.1 ≡ (after_call blobs m.0 st).answer
-    → turn_in (suc n) blobs w st (suc left) h ≡ turn_behind (Listener w m.0 m.1) (turn_in n blobs w (after_call blobs m.0 st).state left (noted h (pair_notes m)))
+    → turn_in (suc n) blobs w st (suc left) h ≡ turn_behind (Listener w m.0 m.1) (turn_in n blobs w (after_call blobs m.0 st).state left (with_notes h (pair_notes m)))
 one_made n blobs w st left h m e is =
     let made = after_call blobs m.0 st in
     ap (turn_by (turn_in n blobs w) blobs w st (suc left) h) e
-    ∙ ap (λ (x : Answer). turn_behind (Listener w m.0 x) (turn_in n blobs w made.state left (noted h (Made m.0 ∷ Told x ∷ [])))) (sym is)
+    ∙ ap (λ (x : Answer). turn_behind (Listener w m.0 x) (turn_in n blobs w made.state left (with_notes h (Made m.0 ∷ Told x ∷ [])))) (sym is)
 
 -- what is answered behind a call
 pub past_one : (h : ListenerState) (m : Call × Answer) (more : List Note) → AreAnswers h.answers h.notes (Made m.0 ∷ Told m.1 ∷ more) → AreAnswers h.answers (h.notes ++ pair_notes m) more
@@ -42,12 +42,12 @@ past_one h m more a = subst (λ ns. AreAnswers h.answers ns more) (append_assoc 
 -- ---- a turn that went through
 
 -- the turn of a listener that made these calls and rested
-abbrev pub whole_turn : List (List ℕ) → ℕ → State → ℕ → ListenerState → List (Call × Answer) → Turn
+abbrev pub whole_turn : List (List ℕ) → ℕ → State → ℕ → ListenerState → List (Call × Answer) → TurnPart
 whole_turn blobs w st rest h made = record {
   entries = made_entries w made;
   state = after_entries blobs st (made_entries w made);
   left = rest;
-  listener = noted h (made_notes made ++ Rested ∷ []);
+  listener = with_notes h (made_notes made ++ Rested ∷ []);
   stop = None;
 }
 
@@ -66,7 +66,7 @@ one_turn (m ∷ ms) zero blobs w st left rest h r a few e = absurd (omega (arith
 one_turn (m ∷ ms) (suc n) blobs w st zero rest h r a few e = absurd (omega (arith, e))
 one_turn (m ∷ ms) (suc n) blobs w st (suc left) rest h r a few e =
     let made = after_call blobs m.0 st in
-    let next : ListenerState = noted h (pair_notes m) in
+    let next : ListenerState = with_notes h (pair_notes m) in
     let past : AreAnswers h.answers (h.notes ++ pair_notes m) (made_notes ms ++ Rested ∷ []) = past_one h m (made_notes ms ++ Rested ∷ []) a in
     let tail : turn_in n blobs w made.state left next ≡ whole_turn blobs w made.state rest next ms = one_turn ms n blobs w made.state left rest next r.1 past (omega (arith, few)) (omega (arith, e)) in
     one_made n blobs w st left h m a.0 r.0
@@ -89,12 +89,12 @@ cut_now (suc n) blobs w st rest h call stop e c =
     ∙ ap (λ l. turn_stopped st l h call TaskBudget) (sym c.0)
     ∙ ap (λ s. turn_stopped st rest h call s) (sym c.1)
 
-abbrev pub cut_turn_of : List (List ℕ) → ℕ → State → ℕ → ListenerState → List (Call × Answer) → Call → Stop → Turn
+abbrev pub cut_turn_of : List (List ℕ) → ℕ → State → ℕ → ListenerState → List (Call × Answer) → Call → Stop → TurnPart
 cut_turn_of blobs w st rest h made call stop = record {
   entries = made_entries w made;
   state = after_entries blobs st (made_entries w made);
   left = rest;
-  listener = noted h (made_notes made ++ Made call ∷ []);
+  listener = with_notes h (made_notes made ++ Made call ∷ []);
   stop = Some stop;
 }
 
@@ -110,7 +110,7 @@ cut_turn (m ∷ ms) zero n blobs w st left rest h call stop r a few e c = absurd
 cut_turn (m ∷ ms) (suc k) n blobs w st zero rest h call stop r a few e c = absurd (omega (arith, e))
 cut_turn (m ∷ ms) (suc k) n blobs w st (suc left) rest h call stop r a few e c =
     let made = after_call blobs m.0 st in
-    let next : ListenerState = noted h (pair_notes m) in
+    let next : ListenerState = with_notes h (pair_notes m) in
     let more : List Note = made_notes ms ++ Made call ∷ [] in
     let tail : turn_in k blobs w made.state left next ≡ cut_turn_of blobs w made.state rest next ms call stop =
     cut_turn ms k n blobs w made.state left rest next call stop r.1 (past_one h m more a) (omega (arith, few)) (omega (arith, e)) c in
@@ -132,5 +132,5 @@ front_turn (m ∷ ms) zero n blobs w st left rest h r a few e = absurd (omega (a
 front_turn (m ∷ ms) (suc k) n blobs w st zero rest h r a few e = absurd (omega (arith, e))
 front_turn (m ∷ ms) (suc k) n blobs w st (suc left) rest h r a few e =
     let made = after_call blobs m.0 st in
-    let tail = front_turn ms k n blobs w made.state left rest (noted h (pair_notes m)) r.1 (past_one h m (made_notes ms) a) (omega (arith, few)) (omega (arith, e)) in
-    (tail.0, ap (λ (turn : Turn). turn.entries) (one_made k blobs w st left h m a.0 r.0) ∙ ap (λ (es : List Entry). Listener w m.0 m.1 ∷ es) tail.1)
+    let tail = front_turn ms k n blobs w made.state left rest (with_notes h (pair_notes m)) r.1 (past_one h m (made_notes ms) a) (omega (arith, few)) (omega (arith, e)) in
+    (tail.0, ap (λ (turn : TurnPart). turn.entries) (one_made k blobs w st left h m a.0 r.0) ∙ ap (λ (es : List Entry). Listener w m.0 m.1 ∷ es) tail.1)

@@ -15,7 +15,7 @@ use Rattle.call_script.specs.declared.script.Script.{Script as CallScript}
 use Rattle.call_script.specs.Script.{read_of}
 use Rattle.mse_commands.specs.declared.ending.End.{End}
 use Rattle.mse_commands.specs.declared.ending.End.TheVariants.{Memory, Write, Words, NoFile, Read, Script, CallBudget, TaskBudget}
-use Rattle.mse_commands.specs.Requests.{blob_bytes, blobs_bytes, file_in, files_in, file_bytes, script_of_file, script_or_fault}
+use Rattle.mse_commands.specs.Requests.{blob_bytes, blobs_bytes, blob_file_name, blob_file_names, file_bytes, script_of_file, script_or_fault}
 use Rattle.mse_commands.specs.Loads.{IsReached, IsLoadEnd, IsScriptEnd, failures}
 
 -- ---- names
@@ -199,26 +199,26 @@ blobs_fail files (x ∷ xs) text ys bs end p q =
     rw (first.1, blobs_fail files xs text ys second.0 end second.1 q) refl
 
 -- the files of blobs that were loaded are there
-blob_there : (files : Table) (text : BlobText) (b : List ℕ) → blob_bytes files text ≡ Ok b → All (λ other. IsSome (files other)) (files_in (text ∷ []))
+blob_there : (files : Table) (text : BlobText) (b : List ℕ) → blob_bytes files text ≡ Ok b → All (λ other. IsSome (files other)) (blob_file_names (text ∷ []))
 blob_there files (File name) b e = All-cons (λ other. IsSome (files other)) name [] (loaded_there files name b e) (All-nil (λ other. IsSome (files other)))
 blob_there files (Hex bytes) b e = All-nil (λ other. IsSome (files other))
 
-pub blobs_there : (files : Table) (xs : List BlobText) (bs : List (List ℕ)) → blobs_bytes files xs ≡ Ok bs → All (λ other. IsSome (files other)) (files_in xs)
+pub blobs_there : (files : Table) (xs : List BlobText) (bs : List (List ℕ)) → blobs_bytes files xs ≡ Ok bs → All (λ other. IsSome (files other)) (blob_file_names xs)
 blobs_there files [] bs e = All-nil (λ other. IsSome (files other))
 blobs_there files (x ∷ xs) bs e =
     let first = then_first (blob_bytes files x) (λ bytes. blobs_bytes files xs >>= (λ others. Ok (bytes ∷ others))) bs e in
     let second = then_first (blobs_bytes files xs) (λ others. Ok (first.0 ∷ others)) bs first.2 in
-    subst (All (λ other. IsSome (files other))) (sym (filter_map-append file_in (x ∷ []) xs))
-    (All-append (λ other. IsSome (files other)) (files_in (x ∷ [])) (files_in xs) (blob_there files x first.0 first.1) (blobs_there files xs second.0 second.1))
+    subst (All (λ other. IsSome (files other))) (sym (filter_map-append blob_file_name (x ∷ []) xs))
+    (All-append (λ other. IsSome (files other)) (blob_file_names (x ∷ [])) (blob_file_names xs) (blob_there files x first.0 first.1) (blobs_there files xs second.0 second.1))
 
 -- a file is reached behind blobs that were loaded
 pub blobs_reached : (files : Table) (xs : List BlobText) (text : BlobText) (ys : List BlobText) (bs : List (List ℕ)) (name : List ℕ) → blobs_bytes files xs ≡ Ok bs
-    → IsReached files (files_in (text ∷ [])) name → IsReached files (files_in (xs ++ text ∷ ys)) name
+    → IsReached files (blob_file_names (text ∷ [])) name → IsReached files (blob_file_names (xs ++ text ∷ ys)) name
 blobs_reached files xs text ys bs name e p =
-    let parts : files_in (xs ++ text ∷ ys) ≡ files_in xs ++ (files_in (text ∷ []) ++ files_in ys) =
-    filter_map-append file_in xs (text ∷ ys) ∙ ap (λ (l : List (List ℕ)). files_in xs ++ l) (filter_map-append file_in (text ∷ []) ys) in
+    let parts : blob_file_names (xs ++ text ∷ ys) ≡ blob_file_names xs ++ (blob_file_names (text ∷ []) ++ blob_file_names ys) =
+    filter_map-append blob_file_name xs (text ∷ ys) ∙ ap (λ (l : List (List ℕ)). blob_file_names xs ++ l) (filter_map-append blob_file_name (text ∷ []) ys) in
     subst (λ (l : List (List ℕ)). IsReached files l name) (sym parts)
-    (reached_between files name (files_in xs) (files_in (text ∷ [])) (files_in ys) (blobs_there files xs bs e) p)
+    (reached_between files name (blob_file_names xs) (blob_file_names (text ∷ [])) (blob_file_names ys) (blobs_there files xs bs e) p)
 
 -- what is told of a table
 told_at : (P : Table → Type 0) (table : Option Table) (files : Table) → IfSome table P → table ≡ Some files → P files
@@ -243,11 +243,11 @@ blobs_step (Some files) table xs ys text bs new b same more grew p q =
 
 -- one was not
 pub blobs_end : (before table : Option Table) (a b c : ℕ) (texts xs : List BlobText) (text : BlobText) (ys : List BlobText) (bs : List (List ℕ)) (end : End) → table ≡ before → a ≤ b
-    → texts ≡ xs ++ text ∷ ys → IfSome before (λ files. blobs_bytes files xs ≡ Ok bs) → IsLoadEnd table (failures b c) (files_in (text ∷ [])) (λ files. blob_bytes files text) end
-    → IsLoadEnd before (failures a c) (files_in texts) (λ files. blobs_bytes files texts) end
+    → texts ≡ xs ++ text ∷ ys → IfSome before (λ files. blobs_bytes files xs ≡ Ok bs) → IsLoadEnd table (failures b c) (blob_file_names (text ∷ [])) (λ files. blob_bytes files text) end
+    → IsLoadEnd before (failures a c) (blob_file_names texts) (λ files. blobs_bytes files texts) end
 blobs_end before table a b c texts xs text ys bs end same later parts made p =
-    rw parts (end_as before a b c c (files_in (text ∷ [])) (files_in (xs ++ text ∷ ys)) (λ files. blob_bytes files text) (λ files. blobs_bytes files (xs ++ text ∷ ys)) end
+    rw parts (end_as before a b c c (blob_file_names (text ∷ [])) (blob_file_names (xs ++ text ∷ ys)) (λ files. blob_bytes files text) (λ files. blobs_bytes files (xs ++ text ∷ ys)) end
     later (omega arith)
     (λ files name e. blobs_reached files xs text ys bs name (told_at (λ files. blobs_bytes files xs ≡ Ok bs) before files made e))
     (λ files e. blobs_fail files xs text ys bs end (told_at (λ files. blobs_bytes files xs ≡ Ok bs) before files made e))
-    (subst (λ (t : Option Table). IsLoadEnd t (failures b c) (files_in (text ∷ [])) (λ files. blob_bytes files text) end) same p))
+    (subst (λ (t : Option Table). IsLoadEnd t (failures b c) (blob_file_names (text ∷ [])) (λ files. blob_bytes files text) end) same p))

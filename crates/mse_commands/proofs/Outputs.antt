@@ -1,6 +1,6 @@
 -- A run ends as the program does.
-use Rattle.std.proofs.Common.{◌≡◌, ◌≢◌, ℕ, ◌+◌, Bool, true, false, List, [], ◌∷◌, ◌++◌, length, refl, ap, sym, subst, ◌∙◌, arith, inl, inr, append_assoc}
-use Rattle.std.specs.Prelude.{Some, None, is_some, is_err, Result, Ok, ◌⊎◌}
+use Rattle.std.proofs.Common.{◌≡◌, ◌≢◌, ℕ, Bool, true, false, List, [], ◌∷◌, ◌++◌, length, refl, ap, sym, subst, ◌∙◌, arith, inl, inr, append_assoc}
+use Rattle.std.specs.Prelude.{Option, Some, None, is_some, is_err, Result, Ok, ◌⊎◌}
 use Rattle.std.proofs.lemmas.List.{append-nil}
 use Rattle.std.proofs.lemmas.Grind.{flat_map-append}
 use Rattle.mse_outside.specs.Outside.{HasRisen, SinkView, Table}
@@ -13,27 +13,28 @@ use Rattle.listeners.specs.declared.event_dispatch.DispatchFault.TheVariants as 
 use Rattle.mse_engine.specs.State.{State}
 use Rattle.mse_engine.specs.Run.{IsReplay}
 use Rattle.remux.specs.Pieces.{pieces_of_file}
-use Rattle.script_run.specs.declared.stop.Halt.TheVariants as halt
 use Rattle.script_run.specs.declared.stop.Stop.{Stop}
 use Rattle.script_run.specs.declared.stop.Stop.TheVariants as stop
 use Rattle.script_run.specs.Lines.{limits, play_inputs}
 use Rattle.script_run.specs.NoteHistory.{IsAllHeard}
-use Rattle.script_run.specs.PlayedParts.{IsDispatchCut, IsOverLimit, IsWrittenToLastStep}
+use Rattle.script_run.specs.PlayedParts.{IsDispatchCut, IsHeardUpTo, IsWrittenToLastStep}
 use Rattle.script_run.specs.Text.{lines_of, lines_of_entry}
-use Rattle.script_run.specs.Turns.{AreInTurn, HasCallsLeftInLine}
+use Rattle.script_run.specs.Turns.{HasCallsLeftInLine}
+use Rattle.script_run.proofs.ListenerTurns.{AreInTurn}
 use Rattle.script_run.specs.Writes.{IsWritten, IsFrontWritten}
 use Rattle.script_run.proofs.PutLines.{behind_front, front_first, front_none}
+use Rattle.script_run.proofs.StoppedParts.{to_last_step}
 use Rattle.mse_commands.specs.declared.ending.End.{End}
 use Rattle.mse_commands.specs.declared.ending.End.TheVariants.{Memory, Write, Words, NoFile, Read, Script, CallBudget, TaskBudget}
 use Rattle.mse_commands.specs.declared.ending.Status.{Status}
 use Rattle.mse_commands.specs.declared.ending.Status.TheVariants as status
 use Rattle.mse_commands.specs.Endings.{end_of_stop}
-use Rattle.mse_commands.specs.Outcomes.{AreRulesOfNumbers, AreRulesOfTask, CutShort, Ending, HasCause, IsDoneBy, IsAllPrinted, IsEndOfRun, IsEnding, IsFrontPrinted, IsHeard, IsHeardBy, IsHeardTo, IsPrintedBy, IsRefusal, IsRun, IsStatusOf, OverLimit, Refused, RunOutcome, Unbegun, Whole, AreLinesWritten, last_lines, lines_ahead}
+use Rattle.mse_commands.specs.Outcomes.{AreRulesOfNumbers, AreRulesOfTask, CutShort, Ending, HasCause, IsCutShort, IsDoneBy, IsAllPrinted, IsEndOfRun, IsEnding, IsFrontPrinted, IsHeard, IsHeardBy, IsPrintedBy, IsCauseOfRefusal, IsRun, IsStatusOf, OverLimit, Refused, RunOutcome, Unbegun, Whole, last_lines, lines_ahead}
 use Rattle.mse_commands.specs.Requests.{Request, Task, ByScript, ByFile, ByRemux, opening_of, request_in}
 use Rattle.mse_commands.specs.Shown.{IsAllOf, IsFrontOf, closing_lines, last_state, shown_lines, text_of}
 use Rattle.mse_commands.specs.Ends.{AreByWays, IsJournalBy, IsOutputBy, IsRunByWays}
 use Rattle.mse_commands.specs.Played.{Part, listeners_from}
-use Rattle.mse_commands.specs.Program.{Output, opening_play, output_behind, output_of_end, output_of_request, output_of_script, output_of_task, output_then, played, program_of, status_by}
+use Rattle.mse_commands.specs.Program.{Output, opening_play, output_behind, output_of_end, output_of_request, output_of_script, output_of_task, output_then, script_played, program_of, status_by}
 use Rattle.mse_commands.proofs.ByWays.{by_length, from_length, notes_by}
 use Rattle.mse_commands.proofs.CutJournals.{begun_turns, cut_play, rest_in}
 use Rattle.mse_commands.proofs.CutNotes.{AreFresh, AreNotesBy, all_served, cut_served, end_of, events_until}
@@ -52,8 +53,8 @@ record IsTold (ways : List Way) (left : RunOutcome) : Type 0 where
 
 -- of one that was played to its end
 whole_script : (ways : List Way) (script : CallScript) (blobs : List (List ℕ)) (left : RunOutcome) → IsTold ways left → IsReplay blobs (opening_of (ByScript script blobs)) left.entries → IsAllOf (length ways) (ByScript script blobs) left.entries → IsHeard (ByScript script blobs) left
-    → (rest : ℕ) × (played ways script blobs ≡ whole_part blobs (opening_play ways script blobs) rest left.entries)
-unfolding played
+    → (rest : ℕ) × (script_played ways script blobs ≡ whole_part blobs (opening_play ways script blobs) rest left.entries)
+unfolding script_played
 whole_script ways script blobs left t replays all heard =
     let hs = listeners_from 0 script.rules ways in
     let st : State = opening_of (ByScript script blobs) in
@@ -75,8 +76,8 @@ record IsRunUpTo (count : ℕ) (script : CallScript) (blobs : List (List ℕ)) (
 
 -- of one in which a dispatch ended at one listener
 cut_script : (f : DispatchFault) (ways : List Way) (script : CallScript) (blobs : List (List ℕ)) (left : RunOutcome) (c : IsDispatchCut (HasCallsLeftInLine script.drain) f left.entries left.before.notes left.now.notes) → IsTold ways left
-    → IsRunUpTo (length ways) script blobs left → IsPartTo (end_of f) (played ways script blobs) blobs (opening_of (ByScript script blobs)) c.left left.entries
-unfolding played
+    → IsRunUpTo (length ways) script blobs left → IsPartTo (end_of f) (script_played ways script blobs) blobs (opening_of (ByScript script blobs)) c.left left.entries
+unfolding script_played
 cut_script f ways script blobs left c t w =
     let hs = listeners_from 0 script.rules ways in
     let st : State = opening_of (ByScript script blobs) in
@@ -90,8 +91,8 @@ cut_script f ways script blobs left c t w =
 
 -- of one of which all events were answered
 begun_script : (ways : List Way) (script : CallScript) (blobs : List (List ℕ)) (left : RunOutcome) → IsTold ways left → AreRulesOfNumbers script.rules left.now.rules → IsAllHeard left.entries left.before.notes left.now.notes
-    → IsRunUpTo (length ways) script blobs left → IsFront left.entries (played ways script blobs).entries
-unfolding played
+    → IsRunUpTo (length ways) script blobs left → IsFront left.entries (script_played ways script blobs).entries
+unfolding script_played
 begun_script ways script blobs left t own heard w =
     let hs = listeners_from 0 script.rules ways in
     let st : State = opening_of (ByScript script blobs) in
@@ -106,24 +107,20 @@ begun_script ways script blobs left t own heard w =
 all_front : (all es : List Entry) → all ≡ es → IsFront es all
 all_front all es e = ([], e ∙ sym (append-nil es))
 
-limit_front : (s : Stop) (ways : List Way) (script : CallScript) (blobs : List (List ℕ)) (left : RunOutcome) → IsTold ways left → IsRunUpTo (length ways) script blobs left
-    → IsOverLimit (HasCallsLeftInLine script.drain) s left.entries left.before.notes left.now.notes → IsFront left.entries (played ways script blobs).entries
-limit_front (stop.CallBudget k) ways script blobs left t w c = all_front (played ways script blobs).entries left.entries (cut_script (fault.CallBudget k) ways script blobs left c t w).0
-limit_front stop.TaskBudget ways script blobs left t w c = all_front (played ways script blobs).entries left.entries (cut_script fault.TaskBudget ways script blobs left c t w).0
-limit_front (stop.Halted h) ways script blobs left t w c = absurd c
+-- of one that was cut short, by the fault with which the last dispatch ended, if it did
+heard_front : (o : Option DispatchFault) (ways : List Way) (script : CallScript) (blobs : List (List ℕ)) (left : RunOutcome) → IsTold ways left → AreRulesOfNumbers script.rules left.now.rules → IsRunUpTo (length ways) script blobs left
+    → IsHeardUpTo (HasCallsLeftInLine script.drain) o left.entries left.before.notes left.now.notes → IsFront left.entries (script_played ways script blobs).entries
+heard_front None ways script blobs left t own w h = begun_script ways script blobs left t own h w
+heard_front (Some fault.OutOfMemory) ways script blobs left t own w h = cut_script fault.OutOfMemory ways script blobs left h t w
+heard_front (Some (fault.CallBudget k)) ways script blobs left t own w h = all_front (script_played ways script blobs).entries left.entries (cut_script (fault.CallBudget k) ways script blobs left h t w).0
+heard_front (Some fault.TaskBudget) ways script blobs left t own w h = all_front (script_played ways script blobs).entries left.entries (cut_script fault.TaskBudget ways script blobs left h t w).0
 
 -- of one that ended for want of memory
-front_script : (ways : List Way) (script : CallScript) (blobs : List (List ℕ)) (left : RunOutcome) → IsTold ways left → IsRunUpTo (length ways) script blobs left → IsHeardTo (ByScript script blobs) halt.Memory left
-    → IsFront left.entries (played ways script blobs).entries
-front_script ways script blobs left t w heard = elim w.rules [
-  | inl none ↦ ((played ways script blobs).entries, ap (λ xs. xs ++ (played ways script blobs).entries) (sym none))
-  | inr own ↦ elim heard [
-    | inl all ↦ begun_script ways script blobs left t own all w
-    | inr v ↦ elim v [
-      | inl c ↦ cut_script fault.OutOfMemory ways script blobs left c t w
-      | inr s ↦ limit_front s.0 ways script blobs left t w s.1
-    ]
-  ]
+front_script : (ways : List Way) (script : CallScript) (blobs : List (List ℕ)) (left : RunOutcome) → IsTold ways left → IsRunUpTo (length ways) script blobs left → IsCutShort (ByScript script blobs) stop.Memory left
+    → IsFront left.entries (script_played ways script blobs).entries
+front_script ways script blobs left t w came = elim w.rules [
+  | inl none ↦ ((script_played ways script blobs).entries, ap (λ xs. xs ++ (script_played ways script blobs).entries) (sym none))
+  | inr own ↦ heard_front came.fault ways script blobs left t own w came.heard
 ]
 
 -- ---- what is written
@@ -156,11 +153,11 @@ front_output script blobs part es f =
     )
 
 cause_output : (end : End) (ways : List Way) (script : CallScript) (blobs : List (List ℕ)) (left : RunOutcome) → IsTold ways left → IsRunUpTo (length ways) script blobs left → HasCause (ByScript script blobs) left end
-    → output_of_script script blobs (played ways script blobs) ≡ output_then (script_lines script blobs left.entries) (output_of_end end)
+    → output_of_script script blobs (script_played ways script blobs) ≡ output_then (script_lines script blobs left.entries) (output_of_end end)
 cause_output (CallBudget k) ways script blobs left t w c =
-    stop_output (stop.CallBudget k) script blobs (played ways script blobs) (opening_of (ByScript script blobs)) c.left left.entries (cut_script (fault.CallBudget k) ways script blobs left c t w)
+    stop_output (stop.CallBudget k) script blobs (script_played ways script blobs) (opening_of (ByScript script blobs)) c.left left.entries (cut_script (fault.CallBudget k) ways script blobs left c t w)
 cause_output (TaskBudget limit) ways script blobs left t w c =
-    stop_output stop.TaskBudget script blobs (played ways script blobs) (opening_of (ByScript script blobs)) c.1.left left.entries (cut_script fault.TaskBudget ways script blobs left c.1 t w)
+    stop_output stop.TaskBudget script blobs (script_played ways script blobs) (opening_of (ByScript script blobs)) c.1.left left.entries (cut_script fault.TaskBudget ways script blobs left c.1 t w)
     ∙ ap (λ n. output_then (script_lines script blobs left.entries) (output_of_end (TaskBudget n))) (sym c.0)
 cause_output Memory ways script blobs left t w c = absurd c
 cause_output Write ways script blobs left t w c = absurd c
@@ -225,12 +222,13 @@ step_written entries old new w =
     let both : lines_of entries ≡ lines_of w.before ++ lines_of w.last = ap lines_of w.entries_are ∙ flat_map-append lines_of_entry w.before w.last in
     subst (λ ys. IsFrontWritten ys old new) (sym both) (behind_front (lines_of w.before) (lines_of w.last) old new w.wrote)
 
-lines_written : (task : Task) (left : RunOutcome) → AreLinesWritten task left → IsFrontWritten (shown_lines task left.entries) left.before.written left.now.written
-lines_written (ByScript script blobs) left w = step_written left.entries left.before.written left.now.written w
-lines_written (ByFile command bytes) left w = nothing_written [] left.before.written left.now.written w
-lines_written (ByRemux bytes) left w = nothing_written [] left.before.written left.now.written w
+lines_written : (task : Task) (left : RunOutcome) → IsCutShort task stop.Memory left → IsFrontWritten (shown_lines task left.entries) left.before.written left.now.written
+lines_written (ByScript script blobs) left c =
+    step_written left.entries left.before.written left.now.written (to_last_step stop.Memory c.fault left.entries left.before.written left.now.written (inl refl) c.wrote)
+lines_written (ByFile command bytes) left c = nothing_written [] left.before.written left.now.written c.1
+lines_written (ByRemux bytes) left c = nothing_written [] left.before.written left.now.written c.1
 
-front_printed : (ending : Ending) (left : RunOutcome) → IsFrontPrinted ending left → IsFrontWritten (all_lines left.entries ending) left.before.written left.now.written
+front_printed : (ending : Ending) (left : RunOutcome) → IsFrontPrinted stop.Memory ending left → IsFrontWritten (all_lines left.entries ending) left.before.written left.now.written
 front_printed (Whole task) left p = behind_front (lines_ahead left.entries (Whole task)) (last_lines left.entries (Whole task)) left.before.written left.now.written p
 front_printed (OverLimit task end) left p = behind_front (lines_ahead left.entries (OverLimit task end)) (last_lines left.entries (OverLimit task end)) left.before.written left.now.written p
 front_printed (CutShort task) left p = lines_written task left p
@@ -271,13 +269,13 @@ just_written : (output : Output) (ending : Ending) (left : RunOutcome) (s : Stat
 just_written output ending left s lines status = record { front = λ e. ([], lines ∙ sym (append-nil (all_lines left.entries ending))); all = λ p. (status p, lines) }
 
 -- where memory was wanting, as far as it was heard
-cut_output : (task : Task) (ways : List Way) (left : RunOutcome) → IsTold ways left → IsRun task left → IsFrontOf (length ways) task left.entries → AreRulesOfTask task left × IsHeardTo task halt.Memory left
+cut_output : (task : Task) (ways : List Way) (left : RunOutcome) → IsTold ways left → IsRun task left → IsFrontOf (length ways) task left.entries → AreRulesOfTask task left → IsCutShort task stop.Memory left
     → (rest : List (List ℕ)) × ((output_of_task ways task).lines ≡ shown_lines task left.entries ++ rest)
-cut_output (ByScript script blobs) ways left t ran front heard =
-    let up : IsRunUpTo (length ways) script blobs left = record { replays = ran.replays; front = front; rules = heard.0 } in
-    front_output script blobs (played ways script blobs) left.entries (front_script ways script blobs left t up heard.1)
-cut_output (ByFile command bytes) ways left t ran front heard = ((output_of_task ways (ByFile command bytes)).lines, refl)
-cut_output (ByRemux bytes) ways left t ran front heard = ((output_of_task ways (ByRemux bytes)).lines, refl)
+cut_output (ByScript script blobs) ways left t ran front rules came =
+    let up : IsRunUpTo (length ways) script blobs left = record { replays = ran.replays; front = front; rules = rules } in
+    front_output script blobs (script_played ways script blobs) left.entries (front_script ways script blobs left t up came)
+cut_output (ByFile command bytes) ways left t ran front rules came = ((output_of_task ways (ByFile command bytes)).lines, refl)
+cut_output (ByRemux bytes) ways left t ran front rules came = ((output_of_task ways (ByRemux bytes)).lines, refl)
 
 limit_output : (task : Task) (end : End) (ways : List Way) (left : RunOutcome) → IsTold ways left → IsRun task left → IsFrontOf (length ways) task left.entries → HasCause task left end → AreRulesOfTask task left
     → output_of_task ways task ≡ output_then (shown_lines task left.entries) (output_of_end end)
@@ -285,7 +283,7 @@ limit_output (ByScript script blobs) end ways left t ran front cause rules = cau
 limit_output (ByFile command bytes) end ways left t ran front cause rules = absurd cause
 limit_output (ByRemux bytes) end ways left t ran front cause rules = absurd cause
 
-refused_output : (end : End) (request : Request) (ways : List Way) (left : RunOutcome) → ¬ HasRisen left.before.faults left.now.faults → IsRefusal request left end → output_of_request ways request.task ≡ output_of_end end
+refused_output : (end : End) (request : Request) (ways : List Way) (left : RunOutcome) → ¬ HasRisen left.before.faults left.now.faults → IsCauseOfRefusal request left end → output_of_request ways request.task ≡ output_of_end end
 refused_output (Read name) request ways left loads p = absurd (loads p.0)
 refused_output Memory request ways left loads p = ap (output_of_request ways) p
 refused_output Write request ways left loads p = ap (output_of_request ways) p
@@ -295,33 +293,33 @@ refused_output (Script x) request ways left loads p = ap (output_of_request ways
 refused_output (CallBudget k) request ways left loads p = ap (output_of_request ways) p
 refused_output (TaskBudget limit) request ways left loads p = ap (output_of_request ways) p
 
-ending_written : (ending : Ending) (ways : List Way) (request : Request) (left : RunOutcome) (s : Status) → IsRunByWays ways left s → IsEnding (length ways) request left ending → IsHeardBy ending s left
-    → IsWrittenOutput (output_of_request ways request.task) ending left s
-ending_written (Whole task) ways request left s q f heard =
+ending_written : (ending : Ending) (ways : List Way) (request : Request) (left : RunOutcome) (s : Status) → IsRunByWays ways left s → IsEnding (length ways) request left ending → IsHeardBy ending left
+    → IsPrintedBy s ending left → IsWrittenOutput (output_of_request ways request.task) ending left s
+ending_written (Whole task) ways request left s q f heard printed =
     let whole = whole_output task ways left (told ways left s q) f.1 f.2 heard in
     let same : output_of_request ways request.task ≡ output_of_task ways task = ap (output_of_request ways) f.0 in
     just_written _ (Whole task) left s (ap (λ (o : Output). o.lines) same ∙ whole.lines_are) (λ p. whole.status_is s p ∙ sym (ap (λ (o : Output). o.status) same))
-ending_written (OverLimit task end) ways request left s q f heard =
+ending_written (OverLimit task end) ways request left s q f heard printed =
     let same : output_of_request ways request.task ≡ output_then (shown_lines task left.entries) (output_of_end end) =
     ap (output_of_request ways) f.0 ∙ limit_output task end ways left (told ways left s q) f.1 f.2 f.3 heard in
     just_written _ (OverLimit task end) left s (ap (λ (o : Output). o.lines) same) (λ p. p ∙ sym (ap (λ (o : Output). o.status) same))
-ending_written (CutShort task) ways request left s q f heard = record {
+ending_written (CutShort task) ways request left s q f heard printed = record {
   front = λ e.
-      let at : IsHeardBy (CutShort task) status.Memory left = subst (λ (x : Status). IsHeardBy (CutShort task) x left) e heard in
-      let cut = cut_output task ways left (told ways left s q) f.1 f.2 at in
+      let came : IsCutShort task stop.Memory left = subst (λ (x : Status). IsPrintedBy x (CutShort task) left) e printed in
+      let cut = cut_output task ways left (told ways left s q) f.1 f.2 heard came in
       (cut.0, ap (λ (x : Result Task End). (output_of_request ways x).lines) f.0 ∙ cut.1);
   all = λ p. absurd p;
 }
-ending_written (Refused end) ways request left s q f heard =
+ending_written (Refused end) ways request left s q f heard printed =
     let same = refused_output end request ways left q.loads f.1 in
     just_written _ (Refused end) left s (ap (λ (o : Output). o.lines) same) (λ p. p ∙ sym (ap (λ (o : Output). o.status) same))
-ending_written Unbegun ways request left s q f heard = record { front = λ e. ((output_of_request ways request.task).lines, refl); all = λ p. absurd p }
+ending_written Unbegun ways request left s q f heard printed = record { front = λ e. ((output_of_request ways request.task).lines, refl); all = λ p. absurd p }
 
 pub run_ends : (ways : List Way) (files : Table) (words : List (List ℕ)) (left : RunOutcome) (s : Status) → IsRunByWays ways left s → IsEndOfRun (length ways) (request_in files words) left s
     → IsOutputBy (program_of ways files words) left.before.written left.now.written s
 unfolding program_of
 run_ends ways files words left s q w =
-    printed_ends s (output_of_request ways (request_in files words).task) w.ending left q.puts (ending_written w.ending ways (request_in files words) left s q w.follows w.heard) w.printed
+    printed_ends s (output_of_request ways (request_in files words).task) w.ending left q.puts (ending_written w.ending ways (request_in files words) left s q w.follows w.heard w.printed) w.printed
 
 -- ---- the journal of a run
 
@@ -339,7 +337,7 @@ front_status status.Script ending left n never p = absurd (never p.status_is)
 front_status status.NoFile ending left n never p = absurd (never p.status_is)
 
 limit_entries : (end : End) (ways : List Way) (script : CallScript) (blobs : List (List ℕ)) (left : RunOutcome) → IsTold ways left → IsRunUpTo (length ways) script blobs left → HasCause (ByScript script blobs) left end
-    → (played ways script blobs).entries ≡ left.entries
+    → (script_played ways script blobs).entries ≡ left.entries
 limit_entries (CallBudget k) ways script blobs left t w c = (cut_script (fault.CallBudget k) ways script blobs left c t w).0
 limit_entries (TaskBudget limit) ways script blobs left t w c = (cut_script fault.TaskBudget ways script blobs left c.1 t w).0
 limit_entries Memory ways script blobs left t w c = absurd c
@@ -349,7 +347,7 @@ limit_entries (NoFile name) ways script blobs left t w c = absurd c
 limit_entries (Read name) ways script blobs left t w c = absurd c
 limit_entries (Script x) ways script blobs left t w c = absurd c
 
-no_refusal : (end : End) (request : Request) (task : Task) (left : RunOutcome) → request.task ≡ Ok task → ¬ HasRisen left.before.faults left.now.faults → IsRefusal request left end → ⊥
+no_refusal : (end : End) (request : Request) (task : Task) (left : RunOutcome) → request.task ≡ Ok task → ¬ HasRisen left.before.faults left.now.faults → IsCauseOfRefusal request left end → ⊥
 no_refusal (Read name) request task left is loads p = loads p.0
 no_refusal Memory request task left is loads p = cc (sym p ∙ is)
 no_refusal Write request task left is loads p = cc (sym p ∙ is)
@@ -364,7 +362,7 @@ same_task : (request : Request) (task other : Task) → request.task ≡ Ok task
 same_task request task other p q = cc (sym p ∙ q)
 
 ending_journal : (ending : Ending) (ways : List Way) (request : Request) (script : CallScript) (blobs : List (List ℕ)) (left : RunOutcome) (s : Status) → request.task ≡ Ok (ByScript script blobs) → IsRunByWays ways left s
-    → IsEnding (length ways) request left ending → IsHeardBy ending s left → IsPrintedBy s ending left → IsJournalBy (played ways script blobs).entries left.entries s
+    → IsEnding (length ways) request left ending → IsHeardBy ending left → IsPrintedBy s ending left → IsJournalBy (script_played ways script blobs).entries left.entries s
 ending_journal (Whole task) ways request script blobs left s is q f heard p =
     let same = same_task request task (ByScript script blobs) f.0 is in
     let ran : IsRun (ByScript script blobs) left = subst (λ (x : Task). IsRun x left) same f.1 in
@@ -383,14 +381,14 @@ ending_journal (CutShort task) ways request script blobs left s is q f heard p =
     let memory : s ≡ status.Memory = front_status s (CutShort task) left q.puts (λ x. x) p in
     let ran : IsRun (ByScript script blobs) left = subst (λ (x : Task). IsRun x left) same f.1 in
     let front : IsFrontOf (length ways) (ByScript script blobs) left.entries = subst (λ (x : Task). IsFrontOf (length ways) x left.entries) same f.2 in
-    let at : IsHeardBy (CutShort task) status.Memory left = subst (λ (x : Status). IsHeardBy (CutShort task) x left) memory heard in
-    let rules : AreRulesOfTask (ByScript script blobs) left = subst (λ (x : Task). AreRulesOfTask x left) same at.0 in
-    let each : IsHeardTo (ByScript script blobs) halt.Memory left = subst (λ (x : Task). IsHeardTo x halt.Memory left) same at.1 in
-    inr (memory, front_script ways script blobs left (told ways left s q) (record { replays = ran.replays; front = front; rules = rules }) each)
+    let rules : AreRulesOfTask (ByScript script blobs) left = subst (λ (x : Task). AreRulesOfTask x left) same heard in
+    let came : IsCutShort task stop.Memory left = subst (λ (x : Status). IsPrintedBy x (CutShort task) left) memory p in
+    let script_came : IsCutShort (ByScript script blobs) stop.Memory left = subst (λ (x : Task). IsCutShort x stop.Memory left) same came in
+    inr (memory, front_script ways script blobs left (told ways left s q) (record { replays = ran.replays; front = front; rules = rules }) script_came)
 ending_journal (Refused end) ways request script blobs left s is q f heard p = absurd (no_refusal end request (ByScript script blobs) left is q.loads f.1)
 ending_journal Unbegun ways request script blobs left s is q f heard p =
-    inr (front_status s Unbegun left q.puts (λ x. x) p, ((played ways script blobs).entries, ap (λ xs. xs ++ (played ways script blobs).entries) (sym f.entries)))
+    inr (front_status s Unbegun left q.puts (λ x. x) p, ((script_played ways script blobs).entries, ap (λ xs. xs ++ (script_played ways script blobs).entries) (sym f.entries)))
 
 pub run_journal : (ways : List Way) (files : Table) (words : List (List ℕ)) (script : CallScript) (blobs : List (List ℕ)) (left : RunOutcome) (s : Status) → (request_in files words).task ≡ Ok (ByScript script blobs) → IsRunByWays ways left s
-    → IsEndOfRun (length ways) (request_in files words) left s → IsJournalBy (played ways script blobs).entries left.entries s
+    → IsEndOfRun (length ways) (request_in files words) left s → IsJournalBy (script_played ways script blobs).entries left.entries s
 run_journal ways files words script blobs left s is q w = ending_journal w.ending ways (request_in files words) script blobs left s is q w.follows w.heard w.printed

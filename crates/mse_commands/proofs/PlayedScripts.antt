@@ -12,7 +12,7 @@ use Rattle.mse_outside.specs.Outside.{SinkView}
 use Rattle.script_run.specs.declared.stop.Halt.{Halt}
 use Rattle.script_run.specs.declared.stop.Halt.TheVariants as halt
 use Rattle.script_run.specs.declared.stop.Stop.{Stop}
-use Rattle.script_run.specs.declared.stop.Stop.TheVariants.{Halted, CallBudget, TaskBudget}
+use Rattle.script_run.specs.declared.stop.Stop.TheVariants.{Memory, Write, CallBudget, TaskBudget}
 use Rattle.script_run.specs.Follows.{AreScriptLinesDone}
 use Rattle.script_run.specs.PlayedParts.{IsPlayed, IsPlayedUpTo}
 use Rattle.script_run.specs.Rules.{rules_of_listener, rules_for}
@@ -27,8 +27,8 @@ use Rattle.mse_commands.specs.Works.{IsScriptShowResult, ScriptInputs, lines_fro
 
 pub plays_to_stop : (inputs : ScriptInputs) (given : List (List Rule)) (a b : RunState) (stop : Stop)
     → IsPlayedUpTo inputs.blobs (lines_front inputs) stop a b → AreRulesOfNumbers inputs.rules given → IsScriptShowResult inputs given a b (Err (end_of_stop inputs.limits.limit stop))
-plays_to_stop inputs given a b (Halted halt.Memory) p h = inr (inl (record { played = p; rules_are = h }))
-plays_to_stop inputs given a b (Halted halt.Write) p h = inr (inl (record { played = p; rules_are = h }))
+plays_to_stop inputs given a b Memory p h = inr (inl (record { played = p; rules_are = h }))
+plays_to_stop inputs given a b Write p h = inr (inl (record { played = p; rules_are = h }))
 plays_to_stop inputs given a b (CallBudget k) p h = record { played = p; rules_are = h }
 plays_to_stop inputs given a b TaskBudget p h = (refl, record { played = p; rules_are = h })
 

@@ -1,6 +1,7 @@
 -- A run whose listeners tell their ways is one of the program that is a function.
-use Rattle.std.proofs.Common.{◌≡◌, ℕ, suc, List, [], ◌∷◌, length, map, refl, sym, ap, subst, ◌∙◌}
+use Rattle.std.proofs.Common.{◌≡◌, ℕ, List, [], length, map, sym, ap, subst, ◌∙◌}
 use Rattle.std.specs.Prelude.{Option, Some, None, IfSome, Ok}
+use Rattle.std.proofs.lemmas.List.{length-map}
 use Rattle.mse_outside.specs.Outside.{HasRisen, Table}
 use Rattle.mse_calls.specs.declared.rules.Rule.{Rule}
 use Rattle.call_script.specs.declared.script.Script.{Script as CallScript}
@@ -11,20 +12,16 @@ use Rattle.mse_commands.specs.declared.ending.Status.{Status}
 use Rattle.mse_commands.specs.declared.ending.Status.TheVariants as status
 use Rattle.mse_commands.specs.Requests.{HasRequestOfWords, Request, ByScript, request_in}
 use Rattle.mse_commands.specs.Outcomes.{IsEndOfRun, RunOutcome}
-use Rattle.mse_commands.specs.Program.{played, program_of}
+use Rattle.mse_commands.specs.Program.{script_played, program_of}
 use Rattle.mse_commands.specs.Ends.{AreByWays, IsJournalBy, IsOutputBy, IsRunByWays}
 use Rattle.mse_commands.proofs.ByWays.{by_ways_of}
 use Rattle.mse_commands.proofs.Outputs.{run_ends, run_journal}
-
-mapped_length : {A B : Type 0} (f : A → B) (xs : List A) → length (map f xs) ≡ length xs
-mapped_length f [] = refl
-mapped_length f (x ∷ xs) = ap suc (mapped_length f xs)
 
 -- the ways that listeners tell before a run are those that they tell behind it
 pub ways_told : {A : Type 0} (way : A → Option Way) (rules : A → List Rule) (notes : A → List Note) (count : ℕ) (old new : List A) → count ≡ length old → map way new ≡ map way old → AreByWay way rules notes new
     → (ways : List Way) → map way old ≡ map (λ (g : Way). Some g) ways → (length ways ≡ count) × AreByWays ways (map rules new) (map notes new)
 ways_told way rules notes count old new n same b ways e = (
-  sym (mapped_length (λ (g : Way). Some g) ways) ∙ ap length (sym e) ∙ mapped_length way old ∙ sym n,
+  sym (length-map ways (λ (g : Way). Some g)) ∙ ap length (sym e) ∙ length-map old way ∙ sym n,
   by_ways_of way rules notes ways new (same ∙ e) b,
 )
 
@@ -46,7 +43,7 @@ pub journal_by : (table : Option Table) (words : List (List ℕ)) (count : ℕ) 
     → HasRequestOfWords table words (λ request. IsEndOfRun count request left s) → (s ≡ status.Write → HasRisen a b) → ((w : ℕ) → notes_at left.before.notes w ≡ [])
     → ((ways : List Way) → Told ways → (length ways ≡ count) × AreByWays ways left.now.rules left.now.notes)
     → IfSome table (λ files. (ways : List Way) (script : CallScript) (blobs : List (List ℕ)) → (request_in files words).task ≡ Ok (ByScript script blobs) → Told ways → ¬ HasRisen left.before.faults left.now.faults → ¬ HasRisen a b
-    → IsJournalBy (played ways script blobs).entries left.entries s)
+    → IsJournalBy (script_played ways script blobs).entries left.entries s)
 journal_by None words count left a b s Told p write fresh told = tt
 journal_by (Some files) words count left a b s Told p write fresh told = λ ways script blobs is t loads puts.
     let by = told ways t in

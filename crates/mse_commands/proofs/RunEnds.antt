@@ -4,8 +4,8 @@ use Rattle.std.specs.Prelude.{Bool, true, false, is_some, Option, Some, None, Is
 use Rattle.mse_outside.specs.Outside.{HasRisen, SinkView, Table}
 use Rattle.mse_calls.specs.declared.entry.Entry.{Entry}
 use Rattle.mse_calls.specs.declared.views.FaultView.{FaultView}
-use Rattle.script_run.specs.declared.stop.Halt.{Halt}
-use Rattle.script_run.specs.declared.stop.Halt.TheVariants as halt
+use Rattle.script_run.specs.declared.stop.Stop.{Stop}
+use Rattle.script_run.specs.declared.stop.Stop.TheVariants as stop
 use Rattle.script_run.specs.Writes.{IsWritten}
 use Rattle.script_run.proofs.PutLines.{wrote_more, wrote_none}
 use Rattle.mse_commands.specs.declared.ending.End.{End}
@@ -14,9 +14,9 @@ use Rattle.mse_commands.specs.declared.ending.Status.{Status}
 use Rattle.mse_commands.specs.declared.ending.Status.TheVariants as status
 use Rattle.mse_commands.specs.Requests.{HasRequestOfWords, Request, Task, ByScript, ByFile, ByRemux}
 use Rattle.mse_commands.specs.Complete.{IsRunToEnd}
-use Rattle.mse_commands.specs.Endings.{end_of_halt, error_line, status_of}
+use Rattle.mse_commands.specs.Endings.{error_line, status_of}
 use Rattle.mse_commands.specs.Files.{IsThrough}
-use Rattle.mse_commands.specs.Outcomes.{IsEndOfRun, IsEnding, Ending, Whole, OverLimit, CutShort, Refused, Unbegun, IsAllPrinted, IsFrontPrinted, IsHeardBy, IsPrintedBy, IsRefusal, HasCause, AreRulesOfTask, IsBroken, RunOutcome, IsRun, IsNothingRun, IsWholeRun}
+use Rattle.mse_commands.specs.Outcomes.{IsEndOfRun, IsEnding, Ending, Whole, OverLimit, CutShort, Refused, Unbegun, IsAllPrinted, IsFrontPrinted, IsHeardBy, IsPrintedBy, IsCauseOfRefusal, HasCause, AreRulesOfTask, IsBroken, RunOutcome, IsRun, IsNothingRun, IsWholeRun}
 use Rattle.mse_commands.specs.Loads.{IsEndOfFailedLoad}
 use Rattle.mse_commands.specs.Says.{IsEndSaid, IsLineSaid}
 use Rattle.mse_commands.specs.Shown.{last_state, shown_lines}
@@ -31,7 +31,7 @@ with_written left new = record left { now = record left.now { written = new } }
 nothing_again : (left : RunOutcome) (new : SinkView) → IsNothingRun left → IsNothingRun (with_written left new)
 nothing_again left new p = record { entries = p.entries; engine = p.engine; notes = p.notes; rules = p.rules }
 
-refusal_again : (request : Request) (left : RunOutcome) (end : End) (new : SinkView) → IsRefusal request left end → IsRefusal request (with_written left new) end
+refusal_again : (request : Request) (left : RunOutcome) (end : End) (new : SinkView) → IsCauseOfRefusal request left end → IsCauseOfRefusal request (with_written left new) end
 refusal_again request left (Read name) new p = p
 refusal_again request left Memory new p = p
 refusal_again request left Write new p = p
@@ -98,33 +98,31 @@ ends_broken count request (Err end) left is p = absurd p
 
 -- ---- where memory or the sink was wanting
 
-ended_short : (count : ℕ) (request : Request) (left : RunOutcome) (ending : Ending) (s : Status) → (s ≡ status.Write) ⊎ (s ≡ status.Memory) → IsEnding count request left ending
-    → ((h : Halt) → IsHeardBy ending (status_of (end_of_halt h)) left) → IsFrontPrinted ending left → IsEndOfRun count request left s
-ended_short count request left ending s (inl e) follows heard wrote = rw e (record { ending = ending; follows = follows; heard = heard halt.Write; printed = wrote })
-ended_short count request left ending s (inr e) follows heard wrote = rw e (record { ending = ending; follows = follows; heard = heard halt.Memory; printed = wrote })
+ended_short : (count : ℕ) (request : Request) (left : RunOutcome) (ending : Ending) (s : Status) → (s ≡ status.Write) ⊎ (s ≡ status.Memory) → IsEnding count request left ending → IsHeardBy ending left
+    → ((x : Stop) → IsFrontPrinted x ending left) → IsEndOfRun count request left s
+ended_short count request left ending s (inl e) follows heard wrote = rw e (record { ending = ending; follows = follows; heard = heard; printed = wrote stop.Write })
+ended_short count request left ending s (inr e) follows heard wrote = rw e (record { ending = ending; follows = follows; heard = heard; printed = wrote stop.Memory })
 
 -- nothing was run, and nothing was written
-unbegun : (count : ℕ) (request : Request) (left : RunOutcome) (new : SinkView) (h : Halt) → IsNothingDone left → new ≡ left.now.written → IsEndOfRun count request (with_written left new) (status_of (end_of_halt h))
-unbegun count request left new halt.Write n same = ended_short count request (with_written left new) Unbegun status.Write (inl refl) (nothing_again left new n.nothing) (λ h. tt) (same ∙ n.wrote)
-unbegun count request left new halt.Memory n same = ended_short count request (with_written left new) Unbegun status.Memory (inr refl) (nothing_again left new n.nothing) (λ h. tt) (same ∙ n.wrote)
+unbegun : (count : ℕ) (request : Request) (left : RunOutcome) (new : SinkView) (s : Status) → (s ≡ status.Write) ⊎ (s ≡ status.Memory) → IsNothingDone left → new ≡ left.now.written → IsEndOfRun count request (with_written left new) s
+unbegun count request left new s wanting n same = ended_short count request (with_written left new) Unbegun s wanting (nothing_again left new n.nothing) tt (λ x. same ∙ n.wrote)
 
 -- a front was run
-some_ended : (count : ℕ) (request : Request) (task : Task) (left : RunOutcome) (h : Halt) → request.task ≡ Ok task → IsSomeDone count h task left → IsEndOfRun count request left (status_of (end_of_halt h))
-some_ended count request task left halt.Write is d =
-    elim d.wrote [
-      | inl p ↦ record { ending = CutShort task; follows = (is, d.ran.run, d.ran.front); heard = (d.ran.rules, d.heard); printed = p }
-      | inr p ↦ record { ending = Whole task; follows = (is, d.ran.run, p.0); heard = p.1; printed = p.2 }
-    ]
-some_ended count request task left halt.Memory is d =
-    elim d.wrote [
-      | inl p ↦ record { ending = CutShort task; follows = (is, d.ran.run, d.ran.front); heard = (d.ran.rules, d.heard); printed = p }
-      | inr p ↦ record { ending = Whole task; follows = (is, d.ran.run, p.0); heard = p.1; printed = p.2 }
-    ]
+some_memory : (count : ℕ) (request : Request) (task : Task) (left : RunOutcome) → request.task ≡ Ok task → IsSomeDone count stop.Memory task left → IsEndOfRun count request left status.Memory
+some_memory count request task left is d = elim d.came [
+  | inl p ↦ record { ending = CutShort task; follows = (is, d.ran.run, d.ran.front); heard = d.ran.rules; printed = p }
+  | inr p ↦ record { ending = Whole task; follows = (is, d.ran.run, p.0); heard = p.1; printed = p.2 }
+]
 
-some_said : (count : ℕ) (request : Request) (task : Task) (left : RunOutcome) (new : SinkView) (h : Halt) → request.task ≡ Ok task → IsSomeDone count h task left → new ≡ left.now.written
-    → IsEndOfRun count request (with_written left new) (status_of (end_of_halt h))
-some_said count request task left new h is d same =
-    subst (λ (t : SinkView). IsEndOfRun count request (with_written left t) (status_of (end_of_halt h))) (sym same) (some_ended count request task left h is d)
+some_write : (count : ℕ) (request : Request) (task : Task) (left : RunOutcome) → request.task ≡ Ok task → IsSomeDone count stop.Write task left → IsEndOfRun count request left status.Write
+some_write count request task left is d = elim d.came [
+  | inl p ↦ record { ending = CutShort task; follows = (is, d.ran.run, d.ran.front); heard = d.ran.rules; printed = p }
+  | inr p ↦ record { ending = Whole task; follows = (is, d.ran.run, p.0); heard = p.1; printed = p.2 }
+]
+
+-- where no more was written
+as_written : (count : ℕ) (request : Request) (left : RunOutcome) (new : SinkView) (s : Status) → IsEndOfRun count request left s → new ≡ left.now.written → IsEndOfRun count request (with_written left new) s
+as_written count request left new s ends same = subst (λ (t : SinkView). IsEndOfRun count request (with_written left t) s) (sym same) ends
 
 -- ---- behind a line that says why
 
@@ -145,7 +143,7 @@ printed_by (CallBudget k) ending left l p = p
 printed_by (TaskBudget limit) ending left l p = p
 
 -- nothing was run, for this end
-refused : (count : ℕ) (request : Request) (left : RunOutcome) (end : End) (new : SinkView) (s : Status) → HasLine end → IsNothingDone left → IsRefusal request left end → IsLineSaid end left.now.written new s
+refused : (count : ℕ) (request : Request) (left : RunOutcome) (end : End) (new : SinkView) (s : Status) → HasLine end → IsNothingDone left → IsCauseOfRefusal request left end → IsLineSaid end left.now.written new s
     → IsEndOfRun count request (with_written left new) s
 refused count request left end new s line n why (inl p) =
     rw p.status_is (record {
@@ -155,8 +153,8 @@ refused count request left end new s line n why (inl p) =
       printed = printed_by end (Refused end) (with_written left new) line (record { status_is = refl; wrote = subst (λ (t : SinkView). IsWritten (error_line end ∷ []) t new) n.wrote p.wrote });
     })
 refused count request left end new s line n why (inr p) =
-    ended_short count request (with_written left new) (Refused end) s p.wanting (nothing_again left new n.nothing, refusal_again request left end new why) (λ h. tt)
-    (record { middle = left.now.written; wrote = subst (λ (t : SinkView). IsWritten [] left.before.written t) (sym n.wrote) (wrote_none left.before.written); front = p.wrote })
+    ended_short count request (with_written left new) (Refused end) s p.wanting (nothing_again left new n.nothing, refusal_again request left end new why) tt
+    (λ x. record { middle = left.now.written; wrote = subst (λ (t : SinkView). IsWritten [] left.before.written t) (sym n.wrote) (wrote_none left.before.written); front = p.wrote })
 
 -- a front was run, up to a limit of calls
 over_limit : (count : ℕ) (request : Request) (task : Task) (left : RunOutcome) (end : End) (new : SinkView) (s : Status) → HasLine end → request.task ≡ Ok task → IsDoneUpTo count task left end
@@ -177,14 +175,14 @@ over_limit count request task left end new s line is d (inr p) =
     let after : RunOutcome = with_written left new in
     let rules : AreRulesOfTask task after = rules_again task left new d.ran.rules in
     ended_short count request after (OverLimit task end) s p.wanting (is, run_again task left new d.ran.run, d.ran.front, cause_again task left end new d.cause)
-    (λ h. rules)
-    (record { middle = left.now.written; wrote = d.wrote; front = p.wrote })
+    rules
+    (λ x. record { middle = left.now.written; wrote = d.wrote; front = p.wrote })
 
 pub ends_run : (count : ℕ) (request : Request) (task : Task) (left : RunOutcome) (end : End) (new : SinkView) (s : Status) → request.task ≡ Ok task → IsTaskDone count request task left (Err end) → IsEndSaid end left.now.written new s
     → IsEndOfRun count request (with_written left new) s
-ends_run count request task left Memory new s is (inl n) p = rw p.0 (unbegun count request left new halt.Memory n p.1)
-ends_run count request task left Memory new s is (inr d) p = rw p.0 (some_said count request task left new halt.Memory is d p.1)
-ends_run count request task left Write new s is d p = rw p.0 (some_said count request task left new halt.Write is d p.1)
+ends_run count request task left Memory new s is (inl n) p = rw p.0 (unbegun count request left new status.Memory (inr refl) n p.1)
+ends_run count request task left Memory new s is (inr d) p = rw p.0 (as_written count request left new status.Memory (some_memory count request task left is d) p.1)
+ends_run count request task left Write new s is d p = rw p.0 (as_written count request left new status.Write (some_write count request task left is d) p.1)
 ends_run count request task left (Read name) new s is w p = refused count request left (Read name) new s tt w.0 w.1 p
 ends_run count request task left (CallBudget k) new s is d p = over_limit count request task left (CallBudget k) new s tt is d p
 ends_run count request task left (TaskBudget limit) new s is d p = over_limit count request task left (TaskBudget limit) new s tt is d p
@@ -199,8 +197,8 @@ lacking request end found is e = is ∙ ap (λ (x : End). Err x) (sym e)
 
 pub ends_not : (count : ℕ) (request : Request) (end found : End) (left : RunOutcome) (new : SinkView) (s : Status) → request.task ≡ Err end → IsTaskMissing request end left (Err found)
     → IsEndSaid found left.now.written new s → IsEndOfRun count request (with_written left new) s
-ends_not count request end Memory left new s is n p = rw p.0 (unbegun count request left new halt.Memory n p.1)
-ends_not count request end Write left new s is w p = rw p.0 (unbegun count request left new halt.Write w.0 p.1)
+ends_not count request end Memory left new s is n p = rw p.0 (unbegun count request left new status.Memory (inr refl) n p.1)
+ends_not count request end Write left new s is w p = rw p.0 (unbegun count request left new status.Write (inl refl) w.0 p.1)
 ends_not count request end (Read name) left new s is w p = refused count request left (Read name) new s tt w.0 w.1 p
 ends_not count request end Words left new s is w p = refused count request left Words new s tt w.0 (lacking request end Words is w.1) p
 ends_not count request end (NoFile name) left new s is w p = refused count request left (NoFile name) new s tt w.0 (lacking request end (NoFile name) is w.1) p
@@ -253,7 +251,7 @@ printed_whole s ending left (inl e) p = subst (λ (x : Status). IsAllPrinted end
 printed_whole s ending left (inr e) p = subst (λ (x : Status). IsAllPrinted ending x left) (sym e) (subst (λ (x : Status). IsPrintedBy x ending left) e p)
 
 whole_by_ending : (ending : Ending) (count : ℕ) (request : Request) (task : Task) (left : RunOutcome) (s : Status) → request.task ≡ Ok task → IsThrough s → IsEnding count request left ending
-    → IsHeardBy ending s left → IsAllPrinted ending s left → IsRunToEnd count task left s
+    → IsHeardBy ending left → IsAllPrinted ending s left → IsRunToEnd count task left s
 whole_by_ending (Whole t) count request task left s is through f h p =
     let same : t ≡ task = cc (sym f.0 ∙ is) in
     subst (λ (x : Task). IsRunToEnd count x left s) same (record { ran = record { run = f.1; all = f.2; wrote = p.wrote; heard = h }; done = p.status_is })

@@ -44,7 +44,8 @@ end_of_halt halt.Write = Write
 
 -- the end of a stop, where listeners may make so many calls in one line
 abbrev pub end_of_stop : ℕ → Stop → End
-end_of_stop limit (stop.Halted halt) = end_of_halt halt
+end_of_stop limit stop.Memory = Memory
+end_of_stop limit stop.Write = Write
 end_of_stop limit (stop.CallBudget k) = CallBudget k
 end_of_stop limit stop.TaskBudget = TaskBudget limit
 

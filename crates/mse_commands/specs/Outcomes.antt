@@ -8,10 +8,11 @@ use Rattle.mse_engine.specs.Sound.{AreSoundBehind}
 use Rattle.mse_engine.specs.Standing.{KeptEngine, Stands}
 use Rattle.listeners.specs.declared.listener.Note.{Note}
 use Rattle.remux.specs.Pieces.{pieces_of_file}
-use Rattle.script_run.specs.declared.stop.Halt.{Halt}
-use Rattle.script_run.specs.declared.stop.Halt.TheVariants as halt
+use Rattle.listeners.specs.declared.event_dispatch.DispatchFault.TheVariants as fault
+use Rattle.script_run.specs.declared.stop.Stop.{Stop}
 use Rattle.script_run.specs.declared.stop.Stop.TheVariants as stop
-use Rattle.script_run.specs.PlayedParts.{IsHeardUpTo, IsOverLimit, IsWrittenToLastStep}
+use Rattle.script_run.specs.PlayedParts.{IsDispatchCut, IsStoppedBy}
+use Rattle.script_run.specs.RunStates.{outside_view}
 use Rattle.script_run.specs.Rules.{rules_of_listener, rules_for}
 use Rattle.script_run.specs.NoteHistory.{IsAllHeard}
 use Rattle.script_run.specs.Turns.{HasCallsLeftInLine}
@@ -102,13 +103,15 @@ AreRulesOfTask (ByScript script blobs) outcome =
     (outcome.entries ≡ []) ⊎ AreRulesOfNumbers script.rules outcome.now.rules
 AreRulesOfTask other outcome = outcome.now.rules ≡ outcome.before.rules
 
--- What was heard where memory or the sink was wanting: each listener heard each event, but that the dispatch of the last
--- event may have ended at a limit of calls, or, where memory was wanting, for want of it.
-abbrev pub IsHeardTo : Task → Halt → RunOutcome → Type 0
-IsHeardTo (ByScript script blobs) halt outcome =
-    IsHeardUpTo (HasCallsLeftInLine script.drain) halt outcome.entries outcome.before.notes
-    outcome.now.notes
-IsHeardTo other halt outcome = outcome.now.notes ≡ outcome.before.notes
+-- How far a task came that was cut short: a script as `IsStoppedBy` says what was heard and written; of a file nobody
+-- heard anything, and nothing was written.
+abbrev pub IsCutShort : Task → Stop → RunOutcome → Type 0
+IsCutShort (ByScript script blobs) stop outcome =
+    IsStoppedBy (HasCallsLeftInLine script.drain) stop outcome.entries
+    (outside_view outcome.before.written outcome.before.notes)
+    (outside_view outcome.now.written outcome.now.notes)
+IsCutShort other stop outcome =
+    (outcome.now.notes ≡ outcome.before.notes) × (outcome.now.written ≡ outcome.before.written)
 
 -- ---- what was run
 
@@ -140,25 +143,28 @@ IsDoneBy task entries end =
 
 -- ---- why a run ended early
 
--- A listener answered one call more than 1000 for one event, or one more than listeners may make in one line, of which
--- none was left in this one.
+-- The limit of an end: a listener answered an event with one call more than 1000; or it answered a call when the `most`
+-- calls that listeners may make in one line had been made.
+abbrev pub IsOverLimit : ℕ → End → List Entry → List (List Note) → List (List Note) → Type 0
+IsOverLimit most (CallBudget k) entries old new =
+    IsDispatchCut (HasCallsLeftInLine most) (fault.CallBudget k) entries old new
+IsOverLimit most (TaskBudget limit) entries old new =
+    (limit ≡ most) × IsDispatchCut (HasCallsLeftInLine most) fault.TaskBudget entries old new
+IsOverLimit most end entries old new = ⊥
+
+-- only a script stops at a limit: the one of this end
 abbrev pub HasCause : Task → RunOutcome → End → Type 0
-HasCause (ByScript script blobs) outcome (CallBudget k) =
-    IsOverLimit (HasCallsLeftInLine script.drain)
-    (stop.CallBudget k) outcome.entries outcome.before.notes outcome.now.notes
-HasCause (ByScript script blobs) outcome (TaskBudget limit) =
-    (limit ≡ script.drain)
-    × IsOverLimit (HasCallsLeftInLine script.drain) stop.TaskBudget outcome.entries outcome.before.notes
-    outcome.now.notes
+HasCause (ByScript script blobs) outcome end =
+    IsOverLimit script.drain end outcome.entries outcome.before.notes outcome.now.notes
 HasCause task outcome end = ⊥
 
 -- Why nothing was run: the library failed to read the file of this name, which is one of those that are loaded, behind
 -- others that are there; or there is nothing to run.
-abbrev pub IsRefusal : Request → RunOutcome → End → Type 0
-IsRefusal request outcome (Read name) =
+abbrev pub IsCauseOfRefusal : Request → RunOutcome → End → Type 0
+IsCauseOfRefusal request outcome (Read name) =
     HasRisen outcome.before.faults outcome.now.faults
     × IsReached request.files request.names name
-IsRefusal request outcome end = request.task ≡ Err end
+IsCauseOfRefusal request outcome end = request.task ≡ Err end
 
 -- ---- what a run came to
 
@@ -181,7 +187,7 @@ IsEnding count request outcome (OverLimit task end) =
 IsEnding count request outcome (CutShort task) =
     (request.task ≡ Ok task) × IsRun task outcome × IsFrontOf count task outcome.entries
 IsEnding count request outcome (Refused end) =
-    IsNothingRun outcome × IsRefusal request outcome end
+    IsNothingRun outcome × IsCauseOfRefusal request outcome end
 IsEnding count request outcome Unbegun = IsNothingRun outcome
 
 -- the lines that are printed while a task runs
@@ -207,29 +213,21 @@ IsStatusOf entries Unbegun end = ⊥
 
 -- ---- by the status
 
--- What was heard: of what was run to its end all, and of a front as far as memory and the sink went. Behind a limit of
--- calls the cause says it.
-abbrev pub IsHeardBy : Ending → Status → RunOutcome → Type 0
-IsHeardBy (Whole task) end outcome = IsHeard task outcome
-IsHeardBy (OverLimit task why) end outcome = AreRulesOfTask task outcome
-IsHeardBy (CutShort task) status.Write outcome =
-    AreRulesOfTask task outcome × IsHeardTo task halt.Write outcome
-IsHeardBy (CutShort task) status.Memory outcome =
-    AreRulesOfTask task outcome × IsHeardTo task halt.Memory outcome
-IsHeardBy ending end outcome = ⊤
+-- What was heard: of a task that was run to its end, all. Where a limit stopped it, the cause says how much; and where it
+-- was cut short, `IsFrontPrinted` does.
+abbrev pub IsHeardBy : Ending → RunOutcome → Type 0
+IsHeardBy (Whole task) outcome = IsHeard task outcome
+IsHeardBy (OverLimit task why) outcome = AreRulesOfTask task outcome
+IsHeardBy (CutShort task) outcome = AreRulesOfTask task outcome
+IsHeardBy ending outcome = ⊤
 
--- Of a script the lines as far as it came, but that of those of the last thing that was done only a front may have been
--- written; of a file nothing.
-abbrev pub AreLinesWritten : Task → RunOutcome → Type 0
-AreLinesWritten (ByScript script blobs) outcome =
-    IsWrittenToLastStep outcome.entries outcome.before.written outcome.now.written
-AreLinesWritten other outcome = outcome.now.written ≡ outcome.before.written
-
--- that; or nothing, where nothing was run; or the lines ahead, and a front of the last ones
-abbrev pub IsFrontPrinted : Ending → RunOutcome → Type 0
-IsFrontPrinted (CutShort task) outcome = AreLinesWritten task outcome
-IsFrontPrinted Unbegun outcome = outcome.now.written ≡ outcome.before.written
-IsFrontPrinted ending outcome =
+-- What was printed where memory or the sink was wanting: of a task that was cut short as far as it came, and with it what
+-- was heard, since both go by the fault of the last dispatch; nothing, where nothing was run; or the lines ahead, and a
+-- front of the last ones.
+abbrev pub IsFrontPrinted : Stop → Ending → RunOutcome → Type 0
+IsFrontPrinted stop (CutShort task) outcome = IsCutShort task stop outcome
+IsFrontPrinted stop Unbegun outcome = outcome.now.written ≡ outcome.before.written
+IsFrontPrinted stop ending outcome =
     IsFrontWrittenBehind (lines_ahead outcome.entries ending) (last_lines outcome.entries ending)
     outcome.before.written outcome.now.written
 
@@ -241,8 +239,8 @@ pub record IsAllPrinted (ending : Ending) (end : Status) (outcome : RunOutcome) 
 
 -- What was printed: a front where memory or the sink was wanting, and else all.
 abbrev pub IsPrintedBy : Status → Ending → RunOutcome → Type 0
-IsPrintedBy status.Write ending outcome = IsFrontPrinted ending outcome
-IsPrintedBy status.Memory ending outcome = IsFrontPrinted ending outcome
+IsPrintedBy status.Write ending outcome = IsFrontPrinted stop.Write ending outcome
+IsPrintedBy status.Memory ending outcome = IsFrontPrinted stop.Memory ending outcome
 IsPrintedBy end ending outcome = IsAllPrinted ending end outcome
 
 -- How a run ends: what it came to, which follows what was asked for; what listeners heard, and what was printed.
@@ -250,5 +248,5 @@ pub record IsEndOfRun (count : ℕ) (request : Request) (outcome : RunOutcome)
     (end : Status) : Type 0 where
   pub ending : Ending
   pub follows : IsEnding count request outcome ending
-  pub heard : IsHeardBy ending end outcome
+  pub heard : IsHeardBy ending outcome
   pub printed : IsPrintedBy end ending outcome

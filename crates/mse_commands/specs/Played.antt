@@ -1,6 +1,6 @@
 -- A script that is played, as a function of the script, the bytes of its blobs and what each listener answers
 -- (docs/MACHINE.md, listeners).
-use Rattle.std.specs.Prelude.{ℕ, zero, suc, ◌==◌, Bool, true, false, List, [], ◌∷◌, ◌++◌, Option, Some, None}
+use Rattle.std.specs.Prelude.{ℕ, zero, suc, ◌==◌, Bool, true, false, List, [], ◌∷◌, ◌++◌, map, Option, Some, None}
 use Rattle.mse_calls.specs.AnswerAndState.{AnswerAndState}
 use Rattle.mse_calls.specs.declared.answers.Answer.{Answer}
 use Rattle.mse_calls.specs.declared.calls.Call.{Call}
@@ -27,9 +27,13 @@ pub record ListenerState : Type 0 where
   pub answers : List Note → Option Call
   pub notes : List Note
 
+-- the notes of each
+abbrev pub notes_of_each : List ListenerState → List (List Note)
+notes_of_each listeners = map (λ one. one.notes) listeners
+
 -- with these notes behind its own
-abbrev pub noted : ListenerState → List Note → ListenerState
-noted one notes = record one { notes = one.notes ++ notes }
+abbrev pub with_notes : ListenerState → List Note → ListenerState
+with_notes one notes = record one { notes = one.notes ++ notes }
 
 -- how far a play has come: the state of the machine, how many calls listeners may still make in this line, and the
 -- listeners
@@ -69,56 +73,56 @@ and_then part next = unless_stopped part.stop part (behind part.entries (next pa
 -- ---- the turn of one listener
 
 -- a part of a play in which one listener alone calls
-pub record Turn : Type 0 where
+pub record TurnPart : Type 0 where
   pub entries : List Entry
   pub state : State
   pub left : ℕ
   pub listener : ListenerState
   pub stop : Option Stop
 
--- the turn ends here
-abbrev pub turn_end : State → ℕ → ListenerState → Option Stop → Turn
-turn_end st left one stop =
+-- a turn in which no call is made
+abbrev pub turn_without_calls : State → ℕ → ListenerState → Option Stop → TurnPart
+turn_without_calls st left one stop =
     record { entries = []; state = st; left = left; listener = one; stop = stop }
 
 -- a turn behind this entry
-abbrev pub turn_behind : Entry → Turn → Turn
+abbrev pub turn_behind : Entry → TurnPart → TurnPart
 turn_behind entry turn = record turn { entries = entry ∷ turn.entries }
 
 -- it has no further call
-abbrev pub turn_rested : State → ℕ → ListenerState → Turn
-turn_rested st left one = turn_end st left (noted one (Rested ∷ [])) None
+abbrev pub turn_rested : State → ℕ → ListenerState → TurnPart
+turn_rested st left one = turn_without_calls st left (with_notes one (Rested ∷ [])) None
 
 -- it has one that is not made, as a limit is reached
-abbrev pub turn_stopped : State → ℕ → ListenerState → Call → Stop → Turn
-turn_stopped st left one call stop = turn_end st left (noted one (Made call ∷ [])) (Some stop)
+abbrev pub turn_stopped : State → ℕ → ListenerState → Call → Stop → TurnPart
+turn_stopped st left one call stop = turn_without_calls st left (with_notes one (Made call ∷ [])) (Some stop)
 
 -- listener w has made all the calls that it may for one event
-abbrev pub turn_full : ℕ → State → ℕ → ListenerState → Option Call → Turn
+abbrev pub turn_full : ℕ → State → ℕ → ListenerState → Option Call → TurnPart
 turn_full w st left one None = turn_rested st left one
 turn_full w st left one (Some call) = turn_stopped st left one call (CallBudget w)
 
 -- the call was made; the listener is told the answer, and goes on
-abbrev pub turn_made : (State → ℕ → ListenerState → Turn) → ℕ → ℕ → ListenerState → Call
-    → AnswerAndState Answer State → Turn
+abbrev pub turn_made : (State → ℕ → ListenerState → TurnPart) → ℕ → ℕ → ListenerState → Call
+    → AnswerAndState Answer State → TurnPart
 turn_made go w left one call made =
     turn_behind (Listener w call made.answer)
-    (go made.state left (noted one (Made call ∷ Told made.answer ∷ [])))
+    (go made.state left (with_notes one (Made call ∷ Told made.answer ∷ [])))
 
 -- the call is made, where one is left in the line
-abbrev pub turn_call : (State → ℕ → ListenerState → Turn) → List (List ℕ) → ℕ → State → ℕ
-    → ListenerState → Call → Turn
+abbrev pub turn_call : (State → ℕ → ListenerState → TurnPart) → List (List ℕ) → ℕ → State → ℕ
+    → ListenerState → Call → TurnPart
 turn_call go blobs w st zero one call = turn_stopped st 0 one call TaskBudget
 turn_call go blobs w st (suc left) one call = turn_made go w left one call (after_call blobs call st)
 
 -- by what the listener answers
-abbrev pub turn_by : (State → ℕ → ListenerState → Turn) → List (List ℕ) → ℕ → State → ℕ
-    → ListenerState → Option Call → Turn
+abbrev pub turn_by : (State → ℕ → ListenerState → TurnPart) → List (List ℕ) → ℕ → State → ℕ
+    → ListenerState → Option Call → TurnPart
 turn_by go blobs w st left one None = turn_rested st left one
 turn_by go blobs w st left one (Some call) = turn_call go blobs w st left one call
 
 -- listener w is asked again and again, and may make n calls more
-abbrev pub turn_in : ℕ → List (List ℕ) → ℕ → State → ℕ → ListenerState → Turn
+abbrev pub turn_in : ℕ → List (List ℕ) → ℕ → State → ℕ → ListenerState → TurnPart
 turn_in zero blobs w st left one = turn_full w st left one (one.answers one.notes)
 turn_in (suc n) blobs w st left one =
     turn_by (turn_in n blobs w) blobs w st left one (one.answers one.notes)
@@ -126,7 +130,7 @@ turn_in (suc n) blobs w st left one =
 -- ---- an event that is fired
 
 -- the turn of a listener, where those behind it did nothing
-abbrev pub part_of_turn : List ListenerState → Turn → Part
+abbrev pub part_of_turn : List ListenerState → TurnPart → Part
 part_of_turn others turn = record {
   entries = turn.entries;
   now = record { state = turn.state; left = turn.left; listeners = turn.listener ∷ others };
@@ -134,14 +138,14 @@ part_of_turn others turn = record {
 }
 
 -- a turn, and the part of the listeners behind
-abbrev pub turn_then : Turn → Part → Part
+abbrev pub turn_then : TurnPart → Part → Part
 turn_then turn part = record part {
   entries = turn.entries ++ part.entries;
   now = record part.now { listeners = turn.listener ∷ part.now.listeners };
 }
 
 -- a turn, and what the listeners behind do next unless it stops
-abbrev pub dispatch_then : List ListenerState → (State → ℕ → Part) → Turn → Part
+abbrev pub dispatch_then : List ListenerState → (State → ℕ → Part) → TurnPart → Part
 dispatch_then others next turn =
     unless_stopped turn.stop (part_of_turn others turn)
     (turn_then turn (next turn.state turn.left))
@@ -152,7 +156,7 @@ dispatch_from blobs event w [] st left =
     nothing (record { state = st; left = left; listeners = [] })
 dispatch_from blobs event w (one ∷ others) st left =
     dispatch_then others (dispatch_from blobs event (suc w) others)
-    (turn_in most_calls blobs w st left (noted one (Heard event ∷ [])))
+    (turn_in most_calls blobs w st left (with_notes one (Heard event ∷ [])))
 
 -- by what the machine fires
 abbrev pub fire_by : List (List ℕ) → PlayState → Option (AnswerAndState Event State) → Part
@@ -168,7 +172,7 @@ fire blobs p = fire_by blobs p (fire_result p.state)
 -- ---- a drain
 
 -- how a drain goes on: behind a call of a listener, and where no event waits
-pub record Goings : Type 0 where
+pub record DrainContinuations : Type 0 where
   pub again : PlayState → Part
   pub next : PlayState → Part
 
@@ -178,7 +182,7 @@ if_called true same called = same
 if_called false same called = called
 
 -- so many events wait: each is fired, until a listener has made a call, so that fewer are left
-abbrev pub fire_waiting : List Event → List (List ℕ) → Goings → PlayState → Part
+abbrev pub fire_waiting : List Event → List (List ℕ) → DrainContinuations → PlayState → Part
 fire_waiting [] blobs g p = g.next p
 fire_waiting (event ∷ events) blobs g p =
     and_then (fire blobs p)
@@ -198,13 +202,13 @@ round_in (suc n) blobs again p =
     p
 
 -- with at most n events at which listeners make calls
-abbrev pub drain_in : ℕ → List (List ℕ) → PlayState → Part
-drain_in zero blobs p = nothing p
-drain_in (suc n) blobs p = round_in (suc (steps_left p.state)) blobs (drain_in n blobs) p
+abbrev pub rounds_in : ℕ → List (List ℕ) → PlayState → Part
+rounds_in zero blobs p = nothing p
+rounds_in (suc n) blobs p = round_in (suc (steps_left p.state)) blobs (rounds_in n blobs) p
 
 -- until nothing is left: an event while one waits, else a step of work, else a turn of the element
-unfoldable pub drained : List (List ℕ) → PlayState → Part
-drained blobs p = drain_in (suc p.left) blobs p
+unfoldable pub drain_played : List (List ℕ) → PlayState → Part
+drain_played blobs p = rounds_in (suc p.left) blobs p
 
 -- ---- lines
 
@@ -220,7 +224,7 @@ line_played blobs p (step.Call call) =
 line_played blobs p step.Fire = fire blobs p
 line_played blobs p (step.Work k) = entry_if blobs p (Work k) (after_work k p.state)
 line_played blobs p step.Element = entry_if blobs p Element (after_element_turn p.state)
-line_played blobs p step.Drain = drained blobs p
+line_played blobs p step.Drain = drain_played blobs p
 
 -- with its number n; in it listeners may make `limit` calls
 abbrev pub numbered_played : List (List ℕ) → ℕ → ℕ → PlayState → StepLine → Part

@@ -42,8 +42,8 @@ opening_play ways script blobs = record {
 }
 
 -- all that a script comes to: its journal, its last state, and the limit that stopped it, if one did
-unfoldable pub played : List Way → CallScript → List (List ℕ) → Part
-played ways script blobs =
+unfoldable pub script_played : List Way → CallScript → List (List ℕ) → Part
+script_played ways script blobs =
     lines_played blobs script.drain 0 script.steps (opening_play ways script blobs)
 
 -- behind the lines of the entries: the block, or the error line of the limit
@@ -97,7 +97,7 @@ by_rules (suc n) = next_call ∷ by_rules n
 -- of what is run
 abbrev pub output_of_task : List Way → Task → Output
 output_of_task ways (ByScript script blobs) =
-    output_of_script script blobs (played ways script blobs)
+    output_of_script script blobs (script_played ways script blobs)
 output_of_task ways (ByFile command bytes) =
     output_of_file command bytes (file_appended command bytes)
 output_of_task ways (ByRemux bytes) =

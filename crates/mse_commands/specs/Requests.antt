@@ -81,16 +81,16 @@ remux_task files name = do
 -- ---- with the files that are loaded for it
 
 -- the name of a blob's file
-abbrev pub file_in : BlobText → Option (List ℕ)
-file_in (File name) = Some name
-file_in (Hex bytes) = None
+abbrev pub blob_file_name : BlobText → Option (List ℕ)
+blob_file_name (File name) = Some name
+blob_file_name (Hex bytes) = None
 
-abbrev pub files_in : List BlobText → List (List ℕ)
-files_in texts = filter_map file_in texts
+abbrev pub blob_file_names : List BlobText → List (List ℕ)
+blob_file_names texts = filter_map blob_file_name texts
 
 -- the names of the files that a script names
 abbrev pub files_of_script : Result CallScript End → List (List ℕ)
-files_of_script (Ok script) = files_in script.blobs
+files_of_script (Ok script) = blob_file_names script.blobs
 files_of_script (Err end) = []
 
 -- the names of the files that a command loads

@@ -12,11 +12,8 @@ use Rattle.mse_engine.specs.State.{State}
 use Rattle.mse_engine.specs.Standing.{Stands}
 use Rattle.mse_engine.specs.Views.{view_in}
 use Rattle.remux.specs.Pieces.{pieces_of_file}
-use Rattle.script_run.specs.declared.stop.Halt.{Halt}
-use Rattle.script_run.specs.declared.stop.Halt.TheVariants as halt
 use Rattle.script_run.specs.declared.stop.Stop.{Stop}
 use Rattle.script_run.specs.declared.stop.Stop.TheVariants as stop
-use Rattle.script_run.specs.declared.stop.Stop.TheVariants.{Halted}
 use Rattle.script_run.specs.Follows.{AreScriptLinesDone, AreScriptLinesBegun}
 use Rattle.script_run.specs.Lines.{Limits, limits}
 use Rattle.listeners.specs.Views.{RunView}
@@ -28,7 +25,7 @@ use Rattle.script_run.specs.Writes.{IsWritten, IsFrontWritten, IsFrontWrittenBeh
 use Rattle.mse_commands.specs.declared.ending.End.{End}
 use Rattle.mse_commands.specs.declared.ending.End.TheVariants.{Memory, Write, Words, NoFile, Read, Script, CallBudget, TaskBudget}
 use Rattle.mse_commands.specs.Requests.{Request, Task, ByScript, ByFile, ByRemux}
-use Rattle.mse_commands.specs.Outcomes.{AreLinesWritten, HasCause, AreRulesOfNumbers, AreRulesOfTask, IsHeard, IsHeardTo, IsRefusal, IsRun, RunOutcome, IsNothingRun, IsWholeRun}
+use Rattle.mse_commands.specs.Outcomes.{HasCause, AreRulesOfNumbers, AreRulesOfTask, IsCutShort, IsHeard, IsCauseOfRefusal, IsRun, RunOutcome, IsNothingRun, IsWholeRun}
 use Rattle.mse_commands.specs.Shown.{IsAllOf, IsFrontOf, IsWholeFile, closing_lines, file_closing, last_state, open_entries, pieces_by, shown_lines}
 use Rattle.mse_commands.specs.declared.words.Command.{Command}
 
@@ -150,9 +147,10 @@ pub record IsScriptUnplayed (old new : RunState) : Type 0 where
   pub written : new.written ≡ old.written
   pub notes : new.notes ≡ old.notes
 
-abbrev pub IsScriptCutShort : ScriptInputs → List (List Rule) → RunState → RunState → Halt → Type 0
-IsScriptCutShort inputs given old new halt =
-    IsScriptUnplayed old new ⊎ IsScriptStopped inputs given old new (Halted halt)
+-- for want of memory or of the sink no line was begun, or it stopped within its lines
+abbrev pub IsScriptCutShort : ScriptInputs → List (List Rule) → RunState → RunState → Stop → Type 0
+IsScriptCutShort inputs given old new stop =
+    IsScriptUnplayed old new ⊎ IsScriptStopped inputs given old new stop
     ⊎ IsScriptHalfPlayed inputs given old new
 
 abbrev pub IsScriptShowResult : ScriptInputs → List (List Rule) → RunState → RunState
@@ -160,9 +158,9 @@ abbrev pub IsScriptShowResult : ScriptInputs → List (List Rule) → RunState �
 IsScriptShowResult inputs given old new (Ok broken) =
     (broken ≡ false) × IsScriptPlayed inputs given old new
 IsScriptShowResult inputs given old new (Err Memory) =
-    IsScriptCutShort inputs given old new halt.Memory
+    IsScriptCutShort inputs given old new stop.Memory
 IsScriptShowResult inputs given old new (Err Write) =
-    IsScriptCutShort inputs given old new halt.Write
+    IsScriptCutShort inputs given old new stop.Write
 IsScriptShowResult inputs given old new (Err (CallBudget k)) =
     IsScriptStopped inputs given old new (stop.CallBudget k)
 IsScriptShowResult inputs given old new (Err (TaskBudget limit)) =
@@ -184,10 +182,10 @@ pub record IsFrontRun (count : ℕ) (task : Task) (outcome : RunOutcome) : Type 
   pub front : IsFrontOf count task outcome.entries
   pub rules : AreRulesOfTask task outcome
 
--- the lines of a front were written; or, where all was run and heard, all lines and a front of those that close it
-abbrev pub IsTextWritten : ℕ → Task → RunOutcome → Type 0
-IsTextWritten count task outcome =
-    AreLinesWritten task outcome
+-- it was cut short; or all was run and heard, and all lines and a front of those that close it were written
+abbrev pub IsCutShortOrClosed : ℕ → Task → Stop → RunOutcome → Type 0
+IsCutShortOrClosed count task stop outcome =
+    IsCutShort task stop outcome
     ⊎ (IsAllOf count task outcome.entries × IsHeard task outcome
     × IsFrontWrittenBehind (shown_lines task outcome.entries)
     (closing_lines task (last_state task outcome.entries))
@@ -198,11 +196,10 @@ pub record IsNothingDone (outcome : RunOutcome) : Type 0 where
   pub nothing : IsNothingRun outcome
   pub wrote : outcome.now.written ≡ outcome.before.written
 
--- a front was run, and memory or the sink was wanting
-pub record IsSomeDone (count : ℕ) (halt : Halt) (task : Task) (outcome : RunOutcome) : Type 0 where
+-- a front was run; then memory or the sink was wanting, as `stop` says
+pub record IsSomeDone (count : ℕ) (stop : Stop) (task : Task) (outcome : RunOutcome) : Type 0 where
   pub ran : IsFrontRun count task outcome
-  pub heard : IsHeardTo task halt outcome
-  pub wrote : IsTextWritten count task outcome
+  pub came : IsCutShortOrClosed count task stop outcome
 
 -- it stopped for a cause, behind the lines of all its entries
 pub record IsDoneUpTo (count : ℕ) (task : Task) (outcome : RunOutcome) (end : End) : Type 0 where
@@ -218,10 +215,10 @@ pub record IsAllDone (count : ℕ) (task : Task) (outcome : RunOutcome) (broken 
 abbrev pub IsTaskDone : ℕ → Request → Task → RunOutcome → Result Bool End → Type 0
 IsTaskDone count request task outcome (Ok broken) = IsAllDone count task outcome broken
 IsTaskDone count request task outcome (Err Memory) =
-    IsNothingDone outcome ⊎ IsSomeDone count halt.Memory task outcome
-IsTaskDone count request task outcome (Err Write) = IsSomeDone count halt.Write task outcome
+    IsNothingDone outcome ⊎ IsSomeDone count stop.Memory task outcome
+IsTaskDone count request task outcome (Err Write) = IsSomeDone count stop.Write task outcome
 IsTaskDone count request task outcome (Err (Read name)) =
-    IsNothingDone outcome × IsRefusal request outcome (Read name)
+    IsNothingDone outcome × IsCauseOfRefusal request outcome (Read name)
 IsTaskDone count request task outcome (Err (CallBudget k)) =
     IsDoneUpTo count task outcome (CallBudget k)
 IsTaskDone count request task outcome (Err (TaskBudget limit)) =
@@ -235,7 +232,7 @@ abbrev pub IsTaskMissing : Request → End → RunOutcome → Result Bool End �
 IsTaskMissing request end outcome (Ok broken) = ⊥
 IsTaskMissing request end outcome (Err Memory) = IsNothingDone outcome
 IsTaskMissing request end outcome (Err (Read name)) =
-    IsNothingDone outcome × IsRefusal request outcome (Read name)
+    IsNothingDone outcome × IsCauseOfRefusal request outcome (Read name)
 IsTaskMissing request end outcome (Err other) = IsNothingDone outcome × (other ≡ end)
 
 abbrev pub IsRequestDoneBy : ℕ → Request → Result Task End → RunOutcome → Result Bool End → Type 0

@@ -89,7 +89,8 @@ impl End {
         ensures { result ≡ end_of_stop limit stop }
     {
         match stop {
-            Stop::Halted(halt) => End::of_halt(halt),
+            Stop::Memory => End::Memory,
+            Stop::Write => End::Write,
             Stop::CallBudget(number) => End::CallBudget(number),
             Stop::TaskBudget => End::TaskBudget(limit),
         }

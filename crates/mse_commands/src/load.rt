@@ -1,7 +1,7 @@
 //! Files, scripts and blobs of the library.
 
 ghost use Rattle.std.specs.Prelude.{◌≡◌, ◌≤◌, ◌⊎◌, ◌∷◌, [], length, Ok, IfSome, IfOk, IfErr, IsErrAnd};
-ghost use Rattle.mse_commands.specs.Requests.{IsReadOf, blob_bytes, blobs_bytes, files_in, file_bytes, script_of_file};
+ghost use Rattle.mse_commands.specs.Requests.{IsReadOf, blob_bytes, blobs_bytes, blob_file_names, file_bytes, script_of_file};
 ghost use Rattle.mse_commands.specs.Loads.{IsEndOfFailedLoad, IsLoadEnd, IsScriptEnd, failures};
 
 use crate::ending::End;
@@ -87,7 +87,7 @@ fn load_blob<L: Library>(alloc: Global, library: &mut L, text: &BlobText) -> Res
         IfOk result (λ made. blob_bytes files text.now ≡ Ok made)) }
     ensures early_end { IfErr result (IsLoadEnd (L.table library.old)
         (failures (L.faults library.old) (L.faults library.new))
-        (files_in (text.now ∷ [])) (λ files. blob_bytes files text.now)) }
+        (blob_file_names (text.now ∷ [])) (λ files. blob_bytes files text.now)) }
     ensures no_fewer_faults { L.faults library.old ≤ L.faults library.new }
     ensures failures_told { ¬ IsErrAnd result IsEndOfFailedLoad
         → L.faults library.new ≡ L.faults library.old }
@@ -122,7 +122,7 @@ pub fn load_blobs<L: Library>(
     ensures count { IfOk result (λ made. length made ≡ length texts.now) }
     ensures early_end { IfErr result (IsLoadEnd (L.table library.old)
         (failures (L.faults library.old) (L.faults library.new))
-        (files_in texts.now) (λ files. blobs_bytes files texts.now)) }
+        (blob_file_names texts.now) (λ files. blobs_bytes files texts.now)) }
     ensures no_fewer_faults { L.faults library.old ≤ L.faults library.new }
     ensures failures_told { ¬ IsErrAnd result IsEndOfFailedLoad
         → L.faults library.new ≡ L.faults library.old }

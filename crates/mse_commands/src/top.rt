@@ -10,7 +10,7 @@ ghost use Rattle.mse_commands.specs.Complete.{IsCutAnywhere, IsComplete};
 ghost use Rattle.mse_commands.specs.Ends.{IsJournalBy, IsOutputBy};
 ghost use Rattle.mse_commands.specs.Loads.{failures};
 ghost use Rattle.mse_commands.specs.Outcomes.{IsEndOfRun, outcome_at};
-ghost use Rattle.mse_commands.specs.Program.{played, program_of};
+ghost use Rattle.mse_commands.specs.Program.{script_played, program_of};
 ghost use Rattle.mse_commands.specs.Says.{IsEndSaid, IsLineSaid};
 ghost use Rattle.mse_commands.specs.Words.{command_of};
 
@@ -115,7 +115,7 @@ pub fn run<S: FrameStore, L: Library, K: Sink>(
         → map (λ b. way b) listeners.old.items ≡ map (λ way. Some way) ways
         → ¬ HasRisen (L.faults library.old) (L.faults library.new)
         → ¬ HasRisen (K.faults sink.old) (K.faults sink.new)
-        → IsJournalBy (played ways script blobs).entries journal.new.entries result) }
+        → IsJournalBy (script_played ways script blobs).entries journal.new.entries result) }
     ensures count { vec_len listeners.new ≡ vec_len listeners.old }
     ensures kinds { map (λ b. b.vtable) listeners.new.items
         ≡ map (λ b. b.vtable) listeners.old.items }

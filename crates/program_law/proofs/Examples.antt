@@ -20,8 +20,8 @@ use Rattle.parser_loop.specs.Walk.{items_from, settled_state, lookahead_from}
 use Rattle.segment_walk.specs.Segments.{segment_parse}
 use Rattle.segment_walk.specs.Moves.{step_of}
 use Rattle.mse_commands.specs.declared.ending.Status.TheVariants as status
-use Rattle.mse_commands.specs.Played.{drained}
-use Rattle.mse_commands.specs.Program.{Output, by_rules, output_of_script, played, program_of}
+use Rattle.mse_commands.specs.Played.{drain_played}
+use Rattle.mse_commands.specs.Program.{Output, by_rules, output_of_script, script_played, program_of}
 
 abbrev pub text_line : List ℕ → List ℕ
 text_line text = text ++ 10 ∷ []
@@ -66,13 +66,13 @@ three_lines drain rule = record {
 
 -- what is written with two listeners
 abbrev output_of : CallScript → Output
-output_of script = output_of_script script [] (played (by_rules 2) script [])
+output_of script = output_of_script script [] (script_played (by_rules 2) script [])
 
 with_rule : output_of (three_lines 10 (rule 1)) ≡ record {
   status = status.Ok;
   lines = text_line (codes "call attach: done") ∷ text_line (codes "event source sourceopen") ∷ text_line (codes "listener 1 state: source open duration nan level 0 position 0 paused true seeking false error 0") ∷ text_line (codes "call pause: done") ∷ text_line (codes "state source open duration nan level 0 position 0 paused true seeking false error 0") ∷ text_line (codes "duration nan") ∷ [];
 }
-unfolding played drained rule_calls next_call event_number tick digits
+unfolding script_played drain_played rule_calls next_call event_number tick digits
 with_rule = refl
 
 -- no call is left in the line
@@ -80,5 +80,5 @@ over : output_of (three_lines 0 (rule 1)) ≡ record {
   status = status.TaskBudget;
   lines = text_line (codes "call attach: done") ∷ text_line (codes "event source sourceopen") ∷ text_line (codes "error: more than 0 listener calls in one drain") ∷ [];
 }
-unfolding played drained rule_calls next_call event_number tick digits
+unfolding script_played drain_played rule_calls next_call event_number tick digits
 over = refl

@@ -1,3 +1,4 @@
 mod Examples
 mod FileExamples
+mod LimitExamples
 mod ScriptExamples

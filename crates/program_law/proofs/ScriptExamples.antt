@@ -31,8 +31,8 @@ use Rattle.segment_walk.specs.Segments.{segment_parse}
 use Rattle.listeners.specs.Events.{event_number}
 use Rattle.listeners.specs.RuleCalls.{rule_calls, next_call}
 use Rattle.mse_commands.specs.declared.ending.Status.TheVariants as status
-use Rattle.mse_commands.specs.Played.{drained}
-use Rattle.mse_commands.specs.Program.{by_rules, played, program_of}
+use Rattle.mse_commands.specs.Played.{drain_played}
+use Rattle.mse_commands.specs.Program.{by_rules, script_played, program_of}
 use Rattle.program_law.proofs.Examples.{text_line, one_file}
 
 abbrev play : List (List ℕ)
@@ -82,5 +82,5 @@ pub ten_lines : program_of (by_rules 16) (one_file script) play ≡ record {
       ∷ text_line (codes "buffer 0 phase waiting held 0 used 0 buffered none")
       ∷ [];
 }
-unfolding program_of scan_numeral two_digits full_date fraction_value nanoseconds seconds partial_time offset_minutes time_offset after_date parse_datetime two_wide date_text fraction_digits nanosecond_text time_text offset_text datetime_text is_valid_date is_valid_time is_valid_offset is_valid is_utf8 chars encode blob_of call_word_of event_of unknown_key number_or items_or_none piece_of call_of_line step_of_line index_of size_of listener_of on_of repeat_count_of repeat_of calls_of rule_of keys_check number_at list_at at_most blobs_of steps_of rules_of script_of amount_of time_of after_element key_equals items members atom val header_key expression line lines skip_bom parse_document parse_value along_header along_dots at_key define skip_ws skip_from underscore_fits prefixed_integer decimal_number plain_number number word_value word_len unquoted hex_escape escape_char escape special body one_line quoted simple_key key_after played drained rule_calls next_call event_number digits segment_parse parse_from items_from settled_state lookahead_from step_of header_of tick
+unfolding program_of scan_numeral two_digits full_date fraction_value nanoseconds seconds partial_time offset_minutes time_offset after_date parse_datetime two_wide date_text fraction_digits nanosecond_text time_text offset_text datetime_text is_valid_date is_valid_time is_valid_offset is_valid is_utf8 chars encode blob_of call_word_of event_of unknown_key number_or items_or_none piece_of call_of_line step_of_line index_of size_of listener_of on_of repeat_count_of repeat_of calls_of rule_of keys_check number_at list_at at_most blobs_of steps_of rules_of script_of amount_of time_of after_element key_equals items members atom val header_key expression line lines skip_bom parse_document parse_value along_header along_dots at_key define skip_ws skip_from underscore_fits prefixed_integer decimal_number plain_number number word_value word_len unquoted hex_escape escape_char escape special body one_line quoted simple_key key_after script_played drain_played rule_calls next_call event_number digits segment_parse parse_from items_from settled_state lookahead_from step_of header_of tick
 ten_lines = refl
