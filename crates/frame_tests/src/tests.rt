@@ -8,5 +8,6 @@ mod media;
 mod overlaps;
 mod placing;
 mod removals;
+mod rows;
 mod stores;
 mod values;

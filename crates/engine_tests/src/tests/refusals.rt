@@ -1,6 +1,7 @@
 //! The refusals that are asked for before a call, beside those that the call then answers.
 
 use Refusal::{Late, Not, Told};
+use bmff_write::make as make_file;
 use call_script::{BlobText, Script, StepLine, read_script};
 use mse_base::Ticks;
 use mse_calls::{Answer, Blobs, Call, Name};
@@ -53,7 +54,7 @@ const OF_TIMES_AND_BYTES: [Row; 9] = [
     ("buffered 7", Told(Name::NoSuchBuffer)),
     ("changetype 9", Told(Name::NoSuchBuffer)),
     ("offset 0 nan", TYPE_ERROR),
-    ("append 0 3", Told(Name::NoSuchBytes)),
+    ("append 0 5", Told(Name::NoSuchBytes)),
     ("append 0 0 4 7", Told(Name::NoSuchBytes)),
     ("append 0 0 4 6", Not),
 ];
@@ -178,6 +179,171 @@ const OF_THE_ELEMENT: [Row; 9] = [
     ("state", Not),
 ];
 
+/// A buffer of segments, to which nothing was appended: the append window, and that a source has no duration.
+const OF_MP4_BEFORE_A_SEGMENT: [Row; 21] = [
+    ("attach", Not),
+    ("add video/mp4", Not),
+    ("mode 0 sequence", Not),
+    ("mode 0 segments", Not),
+    ("offset 0 inf", TYPE_ERROR),
+    ("offset 0 -1/1", Not),
+    ("windowend 0 5", Not),
+    ("windowstart 0 5", TYPE_ERROR),
+    ("windowstart 0 -1", TYPE_ERROR),
+    ("windowstart 0 inf", TYPE_ERROR),
+    ("windowstart 0 4", Not),
+    ("windowend 0 4", TYPE_ERROR),
+    ("windowend 0 nan", TYPE_ERROR),
+    ("windowend 0 inf", Not),
+    ("remove 0 0 1", TYPE_ERROR),
+    ("changetype 0 video/webm", Told(Name::NotSupported)),
+    ("changetype 0 video/mp4", Not),
+    ("buffered 0", Not),
+    ("abort 0", Not),
+    ("duration 1", Not),
+    ("endofstream", Not),
+];
+
+/// An append that runs.
+const OF_MP4_WHILE_IT_UPDATES: [Row; 22] = [
+    ("attach", Not),
+    ("add video/mp4", Not),
+    ("append 0 3 0 1163", Not),
+    ("append 0 3 1163 593", INVALID_STATE),
+    ("append 0 3 1163 594", Told(Name::NoSuchBytes)),
+    ("mode 0 segments", INVALID_STATE),
+    ("mode 0 sequence", INVALID_STATE),
+    ("offset 0 0", INVALID_STATE),
+    ("offset 0 nan", TYPE_ERROR),
+    ("windowstart 0 -1", INVALID_STATE),
+    ("windowend 0 nan", INVALID_STATE),
+    ("remove 0 0 1", INVALID_STATE),
+    ("remove 0 inf inf", TYPE_ERROR),
+    ("changetype 0", TYPE_ERROR),
+    ("changetype 0 video/mp4", INVALID_STATE),
+    ("duration 1", INVALID_STATE),
+    ("duration nan", TYPE_ERROR),
+    ("endofstream", INVALID_STATE),
+    ("endofstream network", INVALID_STATE),
+    ("buffered 0", Not),
+    ("abort 0", Not),
+    ("mode 0 sequence", Not),
+];
+
+/// The movie fragment box of a media segment has come, and none of its data. A removal leaves the string as it is; a
+/// change of type does not.
+const OF_MP4_IN_A_MEDIA_SEGMENT: [Row; 28] = [
+    ("attach", Not),
+    ("add video/mp4", Not),
+    ("append 0 3 0 1163", Not),
+    ("drain", Not),
+    ("mode 0 segments", INVALID_STATE),
+    ("mode 0 sequence", INVALID_STATE),
+    ("offset 0 0", INVALID_STATE),
+    ("offset 0 nan", TYPE_ERROR),
+    ("windowstart 0 0", Not),
+    ("windowend 0 0", TYPE_ERROR),
+    ("windowend 0 inf", Not),
+    ("duration 1/1", Not),
+    ("remove 0 1/1 1/1", TYPE_ERROR),
+    ("remove 0 2/1 3/1", TYPE_ERROR),
+    ("remove 0 0 1/1", Not),
+    ("mode 0 sequence", INVALID_STATE),
+    ("append 0 3 1163 593", INVALID_STATE),
+    ("changetype 0 video/mp4", INVALID_STATE),
+    ("abort 0", INVALID_STATE),
+    ("drain", Not),
+    ("mode 0 sequence", INVALID_STATE),
+    ("append 0 3 1163 22", Not),
+    ("drain", Not),
+    ("offset 0 0", INVALID_STATE),
+    ("changetype 0", TYPE_ERROR),
+    ("changetype 0 video/mp4", Not),
+    ("offset 0 0", Not),
+    ("mode 0 sequence", Not),
+];
+
+/// The source is ended in the middle of a media segment. It is opened again before mode and offset are refused; the
+/// append window leaves it ended.
+const OF_MP4_IN_A_MEDIA_SEGMENT_OF_AN_ENDED_SOURCE: [Row; 21] = [
+    ("attach", Not),
+    ("add video/mp4", Not),
+    ("append 0 3 0 1163", Not),
+    ("drain", Not),
+    ("endofstream", Not),
+    ("endofstream", INVALID_STATE),
+    ("duration 1", INVALID_STATE),
+    ("live 0 1", INVALID_STATE),
+    ("clearlive", INVALID_STATE),
+    ("add video/mp4", INVALID_STATE),
+    ("windowstart 0 0", Not),
+    ("windowend 0 1", Not),
+    ("abort 0", INVALID_STATE),
+    ("mode 0 segments", Late(Name::InvalidState)),
+    ("mode 0 segments", INVALID_STATE),
+    ("endofstream", Not),
+    ("offset 0 0", Late(Name::InvalidState)),
+    ("offset 0 0", INVALID_STATE),
+    ("endofstream", Not),
+    ("append 0 3 1163 593", Not),
+    ("append 0 3", INVALID_STATE),
+];
+
+/// A whole media segment: 30 frames in a second, of which the last starts at 136416000000.
+const OF_MP4_BETWEEN_SEGMENTS: [Row; 14] = [
+    ("attach", Not),
+    ("add video/mp4", Not),
+    ("append 0 3", Not),
+    ("drain", Not),
+    ("duration 136415999999", INVALID_STATE),
+    ("duration 136416000000", Not),
+    ("mode 0 sequence", Not),
+    ("mode 0 segments", Not),
+    ("offset 0 1/1", Not),
+    ("append 0 3", Late(Name::QuotaExceeded)),
+    ("remove 0 0 inf", Not),
+    ("drain", Not),
+    ("append 0 3", Not),
+    ("abort 0", Not),
+];
+
+/// A buffer that is removed in the middle of a media segment.
+const OF_A_REMOVED_MP4: [Row; 15] = [
+    ("attach", Not),
+    ("add video/mp4", Not),
+    ("append 0 3 0 1163", Not),
+    ("drain", Not),
+    ("removebuffer 0", Not),
+    ("mode 0 sequence", INVALID_STATE),
+    ("offset 0 0", INVALID_STATE),
+    ("windowstart 0 0", INVALID_STATE),
+    ("windowend 0 1", INVALID_STATE),
+    ("remove 0 0 1", INVALID_STATE),
+    ("append 0 3", INVALID_STATE),
+    ("abort 0", INVALID_STATE),
+    ("changetype 0 video/mp4", INVALID_STATE),
+    ("buffered 0", INVALID_STATE),
+    ("removebuffer 0", Told(Name::NotFound)),
+];
+
+/// A box whose size is less than its header, in the middle of a media segment: the parser is reset, and the source has
+/// ended. The mode opens it again. The element has metadata, so its error is one of decoding, and it may play.
+const OF_MP4_BEHIND_A_FAULT: [Row; 13] = [
+    ("attach", Not),
+    ("add video/mp4", Not),
+    ("append 0 3 0 1163", Not),
+    ("drain", Not),
+    ("append 0 4", Not),
+    ("drain", Not),
+    ("append 0 3", INVALID_STATE),
+    ("endofstream", INVALID_STATE),
+    ("abort 0", INVALID_STATE),
+    ("mode 0 sequence", Not),
+    ("append 0 3", INVALID_STATE),
+    ("abort 0", Not),
+    ("play", Not),
+];
+
 /// An engine at work.
 #[derive(Drop)]
 struct Scene {
@@ -186,10 +352,12 @@ struct Scene {
 }
 
 /// What stands before the steps of a script. Buffers hold one byte. Blob 0 is an ADTS frame of 1024 samples, 48000 a
-/// second, and blob 2 are two of them.
+/// second, and blob 2 are two of them. Blob 3 has an initialization segment of 595 bytes and a media segment of 1161,
+/// whose movie fragment box ends at 1163 and whose first frame ends at 1179. Blob 4 is no box.
 const HEAD: &str = "\
     quota = 1\n\
-    blobs = [\"hex fff14c80015ffc000000\", \"hex 00000000000000\", \"hex fff14c80015ffc000000fff14c80015ffc000000\"]\n\
+    blobs = [\"hex fff14c80015ffc000000\", \"hex 00000000000000\", \"hex fff14c80015ffc000000fff14c80015ffc000000\",\n\
+        \"file made.mp4\", \"hex 0000000766726565\"]\n\
     steps = [";
 
 /// A script of the lines.
@@ -216,7 +384,7 @@ fn scene_of(alloc: Global, script: &Script) -> Result<Scene, Fail> {
     for blob in script.blobs.as_slice() {
         match blob {
             BlobText::Hex(bytes) => blobs.push(bytes.copy()?)?,
-            BlobText::File(_) => return Err("no file")?,
+            BlobText::File(_) => blobs.push(make_file(alloc, 1)?)?,
         }
     }
     Ok(Scene {
@@ -234,9 +402,18 @@ fn refusals(scene: &mut Scene, call: &Call) -> Result<(Option<Name>, Option<Name
     }
 }
 
+/// The name that is told before a call, and the name by which the call is refused.
+fn names(refusal: Refusal) -> (Option<Name>, Option<Name>) {
+    match refusal {
+        Not => (None, None),
+        Told(name) => (Some(name), Some(name)),
+        Late(name) => (None, Some(name)),
+    }
+}
+
 /// Works until nothing runs.
 fn drain(scene: &mut Scene) -> Result<(), Fail> {
-    for _ in 0..10 {
+    for _ in 0..100 {
         if let Some(k) = scene.engine.running() {
             scene.engine.work(k)?;
         }
@@ -244,19 +421,19 @@ fn drain(scene: &mut Scene) -> Result<(), Fail> {
     Ok(())
 }
 
-fn check(rt: &impl Abort, alloc: Global, rows: &[Row]) -> Result<(), Fail> {
-    let script = script_of(alloc, rows)?;
-    let mut scene = scene_of(alloc, &script)?;
+/// Makes the calls of the rows one after the other.
+fn check(rt: &(impl Abort + AllocGlobal), name: &str, rows: &[Row]) -> Result<(), Fail> {
+    let script = script_of(rt.alloc(), rows)?;
+    let mut scene = scene_of(rt.alloc(), &script)?;
     let mut steps = script.steps.as_slice().iter();
-    for (line, wanted) in rows {
-        let wanted = match *wanted {
-            Not => (None, None),
-            Told(name) => (Some(name), Some(name)),
-            Late(name) => (None, Some(name)),
-        };
+    for (i, (line, refusal)) in rows.iter().enumerate() {
         match steps.next() {
             Some(StepLine::Call(call)) => {
-                assert_eq!(rt; refusals(&mut scene, call)?, wanted, "at {line}");
+                let found = refusals(&mut scene, call)?;
+                assert!(rt;
+                    found == names(*refusal),
+                    "{name}, row {i}, {line}: {found:?}"
+                );
             }
             Some(_) => drain(&mut scene)?,
             None => return Err("no step")?,
@@ -265,22 +442,35 @@ fn check(rt: &impl Abort, alloc: Global, rows: &[Row]) -> Result<(), Fail> {
     Ok(())
 }
 
+/// Tables by their names.
+const TABLES: [(&str, &[Row]); 18] = [
+    ("of the source", &OF_THE_SOURCE),
+    ("of times and bytes", &OF_TIMES_AND_BYTES),
+    ("of an append", &OF_AN_APPEND),
+    ("of a removal", &OF_A_REMOVAL),
+    ("of frames that are there", &OF_FRAMES_THAT_ARE_THERE),
+    ("of a segment that has begun", &OF_A_SEGMENT_THAT_HAS_BEGUN),
+    ("of a full buffer", &OF_A_FULL_BUFFER),
+    ("of a removed buffer", &OF_A_REMOVED_BUFFER),
+    ("of seventeen buffers", &OF_SEVENTEEN_BUFFERS),
+    ("behind a fault", &BEHIND_A_FAULT),
+    ("of the element", &OF_THE_ELEMENT),
+    ("of MP4 before a segment", &OF_MP4_BEFORE_A_SEGMENT),
+    ("of MP4 while it updates", &OF_MP4_WHILE_IT_UPDATES),
+    ("of MP4 in a media segment", &OF_MP4_IN_A_MEDIA_SEGMENT),
+    (
+        "of MP4 in a media segment of an ended source",
+        &OF_MP4_IN_A_MEDIA_SEGMENT_OF_AN_ENDED_SOURCE,
+    ),
+    ("of MP4 between segments", &OF_MP4_BETWEEN_SEGMENTS),
+    ("of a removed MP4", &OF_A_REMOVED_MP4),
+    ("of MP4 behind a fault", &OF_MP4_BEHIND_A_FAULT),
+];
+
 #[test]
 fn are_told_before_a_call(rt: HostRuntime) -> Result<(), Fail> {
-    for rows in [
-        OF_THE_SOURCE.as_slice(),
-        &OF_TIMES_AND_BYTES,
-        &OF_AN_APPEND,
-        &OF_A_REMOVAL,
-        &OF_FRAMES_THAT_ARE_THERE,
-        &OF_A_SEGMENT_THAT_HAS_BEGUN,
-        &OF_A_FULL_BUFFER,
-        &OF_A_REMOVED_BUFFER,
-        &OF_SEVENTEEN_BUFFERS,
-        &BEHIND_A_FAULT,
-        &OF_THE_ELEMENT,
-    ] {
-        check(&rt, rt.alloc(), rows)?;
+    for (name, rows) in &TABLES {
+        check(&rt, name, rows)?;
     }
     Ok(())
 }

@@ -1,6 +1,6 @@
-//! Worked examples on a plain store.
+//! Track buffers on a plain store: each case is a row of steps. Times are in 1/90000 of a second.
 
-ghost use Rattle.std.specs.Prelude.{◌≤◌, pos, ◌≤ℤ◌, IfOk};
+ghost use Rattle.std.specs.Prelude.{pos, ◌≤ℤ◌, IfOk};
 
 use super::media::not_negative;
 use mse_base::{
@@ -18,13 +18,82 @@ type Buffers = TrackBuffers<ListStore>;
 /// A track of an initialization segment: its number, kind and codec.
 type Told = (u32, Kind, [u8; 4]);
 
-/// A coded frame: its track, presentation timestamp and duration in 1/90000 of a second, and
-/// whether it is a random access point.
+/// A coded frame: its track, presentation timestamp and duration, and whether it is a random access
+/// point.
 type Sample = (u32, u32, u32, bool);
+
+/// The start and the end of a range.
+type Interval = (u32, u32);
 
 const VIDEO: Told = (1, Kind::Video, *b"avc1");
 
 const AUDIO: Told = (2, Kind::Audio, *b"mp4a");
+
+/// What comes of an initialization segment.
+#[derive(Clone, Copy)]
+enum Receipt {
+    /// It is the first one, or a later one.
+    Done { first: bool },
+    /// It is refused, and the duration stays.
+    Refused(MediaFault),
+    /// It is refused, and the duration changes to that of the presentation.
+    RefusedWithDuration(MediaFault),
+}
+
+/// The duration of a media source.
+#[derive(Clone, Copy)]
+enum Duration {
+    Nan,
+    Infinite,
+}
+
+/// A call on the track buffers, or what they are to tell.
+#[derive(Clone, Copy)]
+enum Step {
+    /// An initialization segment is received, where the duration is this one.
+    Receive(&'static [Told], Duration, Receipt),
+    /// Frames are processed, and none is a fault.
+    Process(&'static [Sample]),
+    /// Frames are flushed from a duration of 0 on, of which the second is perhaps out of range: how
+    /// often the duration changes, and what it is then, in ticks.
+    Flush(&'static [Sample; 3], bool, u64, i128),
+    /// Frames from a time on are removed.
+    Remove(u32),
+    /// Frames are evicted for new bytes, at a quota.
+    Evict(u64, u64),
+    ResetParser,
+    SetSequence(bool),
+    SetOffset(u32),
+    /// The append window is set, and reset.
+    SetWindow,
+    /// Whether timestamps are to be generated.
+    ChangeContainer(bool),
+    /// The track buffers are those of a new source buffer again.
+    Renew,
+    /// Whether no initialization segment was received yet.
+    AwaitsFirst(bool),
+    /// Number, codec and count of frames of each track, and whether each needs a random access
+    /// point.
+    Tracks(&'static [(u32, [u8; 4], usize)], bool),
+    /// The number and the count of frames of the one track, and its ranges.
+    View(u32, u64, &'static [Interval]),
+    Used(u64),
+    HighestStart(u32),
+    /// The highest end, in ticks.
+    HighestEnd(i128),
+    /// The ranges of all tracks, where the source is ended or not.
+    Buffered(bool, &'static [Interval]),
+    /// The range of all tracks that has a time, or ends at it.
+    Holding(u32, bool, Option<Interval>),
+    /// The first and the last range of all tracks, where the source is ended or not.
+    Bounds(bool, Option<Interval>, Option<Interval>),
+    GroupStart(Option<u32>),
+    Offset(u32),
+    /// Whether the append mode is "sequence".
+    Sequence(bool),
+    /// Whether timestamps are generated.
+    Generates(bool),
+}
 
 fn time(m: u32) -> Result<Ticks, Fail> {
     Ok(convert(i128::from(m), 90_000).ok_or("no time")?)
@@ -70,204 +139,73 @@ fn presentation_of(alloc: Global, tracks: &[Told]) -> Result<Presentation, Fail>
     })
 }
 
-/// Receives an initialization segment, and asserts what comes of it.
-fn receive(
-    rt: &(impl Abort + AllocGlobal),
+/// What an initialization segment brings about, where the duration is this one.
+fn effect_of(receipt: Receipt, duration: Moment) -> Result<MediaEffect, Fail> {
+    let nothing = SourceEffect {
+        duration_changes: 0,
+        duration,
+        activated: false,
+        received_init: false,
+    };
+    match receipt {
+        Receipt::Done { first } => Ok(MediaEffect::Done(SourceEffect {
+            activated: first,
+            received_init: true,
+            ..nothing
+        })),
+        Receipt::Refused(fault) => Ok(MediaEffect::AppendError(fault, nothing)),
+        Receipt::RefusedWithDuration(fault) => {
+            let told = SourceEffect {
+                duration_changes: 1,
+                duration: Moment::At(time(900_000)?),
+                ..nothing
+            };
+            Ok(MediaEffect::AppendError(fault, told))
+        }
+    }
+}
+
+/// Receives an initialization segment; whether that comes of it which is wanted.
+fn receives(
+    alloc: Global,
     buffers: &mut Buffers,
     tracks: &[Told],
     duration: Moment,
-    want: &MediaEffect,
-) -> Result<(), Fail> {
-    let presentation = presentation_of(rt.alloc(), tracks)?;
+    wanted: &MediaEffect,
+) -> Result<bool, Fail> {
+    let presentation = presentation_of(alloc, tracks)?;
     buffers.reserve_tracks(media_track_count(&presentation))?;
-    let taken = buffers.receive(&presentation, duration);
-    assert!(rt; taken == *want);
-    Ok(())
+    let effect = buffers.receive(&presentation, duration);
+    Ok(effect == *wanted)
 }
 
-/// Track buffers in mode "segments" that received an initialization segment.
-fn buffers_with_tracks(rt: &(impl Abort + AllocGlobal), tracks: &[Told]) -> Result<Buffers, Fail> {
-    let mut buffers = Buffers::new(rt.alloc(), Ticks::zero(), false);
-    let want = MediaEffect::Done(init_effect(true));
-    receive(rt, &mut buffers, tracks, Moment::Infinite, &want)?;
-    Ok(buffers)
-}
-
-/// Processes a frame that is no fault.
-fn process(alloc: Global, buffers: &mut Buffers, sample: &Sample) -> Result<(), Fail> {
+/// Processes a frame; whether it is no fault.
+fn processes(alloc: Global, buffers: &mut Buffers, sample: &Sample) -> Result<bool, Fail> {
     let frame = frame_of(alloc, sample)?;
     buffers.reserve_frames(1)?;
     match buffers.process(frame, Moment::Infinite) {
-        MediaEffect::Done(_) => Ok(()),
-        MediaEffect::AppendError(_, _) => Err("a fault".into()),
+        MediaEffect::Done(_) => Ok(true),
+        MediaEffect::AppendError(_, _) => Ok(false),
     }
 }
 
-fn process_all(alloc: Global, buffers: &mut Buffers, samples: &[Sample]) -> Result<(), Fail> {
+fn processes_all(alloc: Global, buffers: &mut Buffers, samples: &[Sample]) -> Result<bool, Fail> {
     for sample in samples {
-        process(alloc, buffers, sample)?;
+        if !processes(alloc, buffers, sample)? {
+            return Ok(false);
+        }
     }
-    Ok(())
+    Ok(true)
 }
 
-/// Track buffers of both kinds with a frame each.
-fn of_both_kinds(rt: &(impl Abort + AllocGlobal)) -> Result<Buffers, Fail> {
-    let mut buffers = buffers_with_tracks(rt, &[VIDEO, AUDIO])?;
-    process_all(
-        rt.alloc(),
-        &mut buffers,
-        &[(1, 0, 3000, true), (2, 0, 1920, true)],
-    )?;
-    Ok(buffers)
-}
-
-/// Nothing, where the duration is infinite.
-fn nothing() -> SourceEffect {
-    SourceEffect {
-        duration_changes: 0,
-        duration: Moment::Infinite,
-        activated: false,
-        received_init: false,
-    }
-}
-
-/// An initialization segment, the first one or a later one, where the duration is infinite.
-fn init_effect(first: bool) -> SourceEffect {
-    SourceEffect {
-        activated: first,
-        received_init: true,
-        ..nothing()
-    }
-}
-
-/// Asserts number, codec and count of frames of each track, and that each needs a random access
-/// point or that none does.
-fn expect_tracks(
-    rt: &impl Abort,
-    buffers: &Buffers,
-    want: &[(u32, [u8; 4], usize)],
-    need_sync: bool,
-) -> Result<(), Fail> {
-    let tracks = buffers.tracks();
-    assert_eq!(rt; tracks.len(), want.len());
-    for (i, (id, codec, frames)) in want.iter().enumerate() {
-        let track = tracks.get(i).ok_or("no track")?;
-        assert_eq!(rt; track.id, *id, "track {i}");
-        assert_eq!(rt; track.codec, *codec, "track {i}");
-        assert_eq!(rt; track.store.len(), *frames, "track {i}");
-        assert_eq!(rt; track.marks.need_sync, need_sync, "track {i}");
-    }
-    Ok(())
-}
-
-fn expect_ranges(rt: &impl Abort, ranges: &Ranges, want: &[(u32, u32)]) -> Result<(), Fail> {
-    assert_eq!(rt; ranges.len(), want.len());
-    for (i, (start, end)) in want.iter().enumerate() {
-        let span = Span {
-            start: time(*start)?,
-            end: time(*end)?,
-        };
-        assert_eq!(rt; ranges.get(i), Some(span), "range {i}");
-    }
-    Ok(())
-}
-
-#[test]
-fn goes_on_by_kind(rt: HostRuntime) -> Result<(), Fail> {
-    let went = MediaEffect::Done(init_effect(false));
-    let mut buffers = of_both_kinds(&rt)?;
-    expect_tracks(&rt, &buffers, &[(1, *b"avc1", 1), (2, *b"mp4a", 1)], false)?;
-
-    // The numbers change places, and then both are new.
-    let swapped = [(1, Kind::Audio, *b"mp4a"), (2, Kind::Video, *b"avc1")];
-    receive(&rt, &mut buffers, &swapped, Moment::Infinite, &went)?;
-    expect_tracks(&rt, &buffers, &[(2, *b"avc1", 1), (1, *b"mp4a", 1)], true)?;
-    let others = [(7, Kind::Video, *b"avc1"), (8, Kind::Audio, *b"mp4a")];
-    receive(&rt, &mut buffers, &others, Moment::Infinite, &went)?;
-    expect_tracks(&rt, &buffers, &[(7, *b"avc1", 1), (8, *b"mp4a", 1)], true)
-}
-
-#[test]
-fn tells_other_tracks(rt: HostRuntime) -> Result<(), Fail> {
-    let differ = MediaEffect::AppendError(MediaFault::TracksDiffer, nothing());
-    let went = MediaEffect::Done(init_effect(false));
-    let second = (2, Kind::Video, *b"hvc1");
-    let others = [second, (3, Kind::Video, *b"avc1")];
-    let exchanged = [(1, Kind::Video, *b"hvc1"), (2, Kind::Video, *b"avc1")];
-    let mut buffers = buffers_with_tracks(&rt, &[VIDEO, second])?;
-    receive(&rt, &mut buffers, &others, Moment::Infinite, &differ)?;
-    receive(&rt, &mut buffers, &[VIDEO], Moment::Infinite, &differ)?;
-    receive(
-        &rt,
-        &mut buffers,
-        &[VIDEO, second, AUDIO],
-        Moment::Infinite,
-        &differ,
-    )?;
-    receive(&rt, &mut buffers, &exchanged, Moment::Infinite, &differ)?;
-    receive(&rt, &mut buffers, &[second, VIDEO], Moment::Infinite, &went)?;
-    expect_tracks(&rt, &buffers, &[(1, *b"avc1", 0), (2, *b"hvc1", 0)], true)
-}
-
-#[test]
-fn changes_codecs_where_it_may(rt: HostRuntime) -> Result<(), Fail> {
-    let differ = MediaEffect::AppendError(MediaFault::TracksDiffer, nothing());
-    let went = MediaEffect::Done(init_effect(false));
-    let other = [(9, Kind::Video, *b"hvc1")];
-    let mut buffers = buffers_with_tracks(&rt, &[VIDEO])?;
-    receive(&rt, &mut buffers, &other, Moment::Infinite, &differ)?;
-    buffers.change_container(false);
-    receive(&rt, &mut buffers, &other, Moment::Infinite, &went)?;
-    expect_tracks(&rt, &buffers, &[(9, *b"hvc1", 0)], true)?;
-    receive(&rt, &mut buffers, &[VIDEO], Moment::Infinite, &differ)?;
-    expect_tracks(&rt, &buffers, &[(9, *b"hvc1", 0)], true)
-}
-
-#[test]
-fn tells_what_is_wrong_first(rt: HostRuntime) -> Result<(), Fail> {
-    let text = (3, Kind::Other, *b"wvtt");
-    let unknown = [VIDEO, (2, Kind::Audio, *b"flac")];
-    let unknown_codec = MediaEffect::AppendError(MediaFault::UnknownCodec, nothing());
-    // The duration is told before the fault.
-    let told = SourceEffect {
-        duration_changes: 1,
-        duration: Moment::At(time(900_000)?),
-        ..nothing()
-    };
-    let no_tracks = MediaEffect::AppendError(MediaFault::NoTracks, told);
-    let mut buffers = Buffers::new(rt.alloc(), Ticks::zero(), false);
-    receive(&rt, &mut buffers, &[text], Moment::Nan, &no_tracks)?;
-    receive(
-        &rt,
-        &mut buffers,
-        &unknown,
-        Moment::Infinite,
-        &unknown_codec,
-    )?;
-    assert!(rt; buffers.is_awaiting_first());
-    // A track that is neither video nor audio may have any codec.
-    let went = MediaEffect::Done(init_effect(true));
-    receive(&rt, &mut buffers, &[text, VIDEO], Moment::Infinite, &went)?;
-    receive(
-        &rt,
-        &mut buffers,
-        &unknown,
-        Moment::Infinite,
-        &unknown_codec,
-    )?;
-    expect_tracks(&rt, &buffers, &[(1, *b"avc1", 0)], true)
-}
-
-/// Flushes frames from a duration of 0 on, and asserts how often it changed, and what it is then.
+/// Flushes frames from a duration of 0 on, the second perhaps out of range; how often the duration
+/// changed, and what it is then.
 fn flush(
-    rt: &(impl Abort + AllocGlobal),
+    alloc: Global,
     buffers: &mut Buffers,
     samples: &[Sample; 3],
     far: bool,
-    duration_changes: u64,
-    duration: Ticks,
-) -> Result<(), Fail> {
-    let alloc = rt.alloc();
+) -> Result<SourceEffect, Fail> {
     let first = frame_of(alloc, &samples[0])?;
     let mut second = frame_of(alloc, &samples[1])?;
     let third = frame_of(alloc, &samples[2])?;
@@ -279,302 +217,465 @@ fn flush(
     frames.push(second)?;
     frames.push(third)?;
     buffers.reserve_frames(3)?;
-    let effect = buffers.flush(frames, Moment::At(Ticks::zero()));
-    assert_eq!(rt; effect.duration_changes, duration_changes);
-    assert!(rt; effect.duration == Moment::At(duration));
-    Ok(())
+    Ok(buffers.flush(frames, Moment::At(Ticks::zero())))
 }
 
-/// Asserts the buffered ranges of all tracks.
-fn expect_buffered(
-    rt: &impl Abort,
-    buffers: &Buffers,
-    ended: bool,
-    want: &[(u32, u32)],
-) -> Result<(), Fail> {
-    let ranges = buffers.buffered(ended)?;
-    expect_ranges(rt, &ranges, want)
-}
-
-/// Asserts that there is one track, and its number, how many frames it has and its ranges.
-fn expect_view(
-    rt: &impl Abort,
-    buffers: &Buffers,
-    id: u32,
-    frames: u64,
-    want: &[(u32, u32)],
-) -> Result<(), Fail> {
-    let views = buffers.track_views()?;
-    let view = views.get(0).ok_or("no view")?;
-    assert!(rt; views.len() == 1 && view.id == id && view.frames == frames);
-    expect_ranges(rt, view.ranges.as_ranges(), want)
-}
-
-#[test]
-fn flushes_frames(rt: HostRuntime) -> Result<(), Fail> {
-    let samples = [
-        (1, 0, 3000, true),
-        (1, 3000, 3000, false),
-        (1, 6000, 3000, false),
-    ];
-    let end = Ticks::new(14_112_000_000).ok_or("no time")?;
-    let mut buffers = buffers_with_tracks(&rt, &[VIDEO])?;
-    flush(&rt, &mut buffers, &samples, false, 3, end)?;
-    assert_eq!(rt; buffers.used(), 12);
-    assert_eq!(rt; buffers.highest_start(), Some(time(6000)?));
-    assert_eq!(rt; buffers.highest_end(), Some(end));
-    expect_tracks(&rt, &buffers, &[(1, *b"avc1", 3)], false)?;
-    expect_buffered(&rt, &buffers, false, &[(0, 9000)])?;
-    expect_view(&rt, &buffers, 1, 3, &[(0, 9000)])
-}
-
-/// A frame out of range ends it, and what was stored before stays. A frame of no track is passed
-/// over.
-#[test]
-fn flushes_up_to_a_fault(rt: HostRuntime) -> Result<(), Fail> {
-    let samples = [
-        (1, 0, 3000, true),
-        (1, 3000, 3000, true),
-        (1, 3000, 3000, false),
-    ];
-    let mut buffers = buffers_with_tracks(&rt, &[VIDEO])?;
-    flush(&rt, &mut buffers, &samples, true, 1, time(3000)?)?;
-    expect_tracks(&rt, &buffers, &[(1, *b"avc1", 1)], false)?;
-    process(rt.alloc(), &mut buffers, &(5, 0, 3000, true))?;
-    expect_tracks(&rt, &buffers, &[(1, *b"avc1", 1)], false)
-}
-
-#[test]
-fn buffers_what_all_tracks_have(rt: HostRuntime) -> Result<(), Fail> {
-    let alloc = rt.alloc();
-    let mut buffers = buffers_with_tracks(&rt, &[VIDEO, AUDIO])?;
-    expect_buffered(&rt, &buffers, true, &[])?;
-    let samples = [
-        (1, 0, 3000, true),
-        (1, 6000, 3000, true),
-        (2, 1000, 6000, true),
-    ];
-    process_all(alloc, &mut buffers, &samples)?;
-    expect_buffered(&rt, &buffers, false, &[(1000, 3000), (6000, 7000)])?;
-    expect_buffered(&rt, &buffers, true, &[(1000, 3000), (6000, 9000)])?;
-
-    buffers.remove(time(6000)?, Moment::Infinite, Moment::Infinite);
-    expect_buffered(&rt, &buffers, false, &[(1000, 3000)])?;
-    let none = Buffers::new(alloc, Ticks::zero(), true);
-    expect_buffered(&rt, &none, true, &[])
-}
-
-/// The range from a time on and before another, if there is one.
-fn span_of(bounds: Option<(u32, u32)>) -> Result<Option<Span>, Fail> {
-    match bounds {
-        Some((start, end)) => Ok(Some(Span {
-            start: time(start)?,
-            end: time(end)?,
-        })),
-        None => Ok(None),
-    }
-}
-
-/// Asserts the range of all tracks that has a time, or ends at it.
-fn expect_span(
-    rt: &impl Abort,
-    buffers: &Buffers,
-    at: u32,
-    ended: bool,
-    want: Option<(u32, u32)>,
-) -> Result<(), Fail> {
-    let want = span_of(want)?;
-    assert_eq!(rt; buffers.span_holding(time(at)?, ended), want, "at {at}");
-    Ok(())
-}
-
-/// A time, whether the source has ended, and the range that has the time.
-const RANGES_OF_TIMES: [(u32, bool, Option<(u32, u32)>); 8] = [
-    (999, false, None),
-    (1000, false, Some((1000, 3000))),
-    (3000, true, Some((1000, 3000))),
-    (4000, false, None),
-    (7000, false, Some((6000, 7000))),
-    (8000, false, None),
-    (8000, true, Some((6000, 9000))),
-    (9001, true, None),
-];
-
-/// The range that holds a time: in a gap there is none, and a range holds the time at which it
-/// ends. Where the source is ended, the last range of each track lasts to the highest end.
-#[test]
-fn finds_the_range_of_a_time(rt: HostRuntime) -> Result<(), Fail> {
-    let mut buffers = buffers_with_tracks(&rt, &[VIDEO, AUDIO])?;
-    expect_span(&rt, &buffers, 0, true, None)?;
-    let samples = [
-        (1, 0, 3000, true),
-        (1, 6000, 3000, true),
-        (2, 1000, 6000, true),
-    ];
-    process_all(rt.alloc(), &mut buffers, &samples)?;
-    for (at, ended, want) in &RANGES_OF_TIMES {
-        expect_span(&rt, &buffers, *at, *ended, *want)?;
-    }
-    Ok(())
-}
-
-#[test]
-fn evicts_frames(rt: HostRuntime) -> Result<(), Fail> {
-    let alloc = rt.alloc();
-    let mut buffers = buffers_with_tracks(&rt, &[VIDEO])?;
-    process_all(
-        alloc,
-        &mut buffers,
-        &[(1, 0, 3000, true), (1, 3000, 3000, true)],
-    )?;
-    buffers.evict(Ticks::zero(), 4, 8, Moment::Infinite);
-    assert_eq!(rt; buffers.used(), 4);
-    expect_buffered(&rt, &buffers, false, &[(0, 3000)])
-}
-
-fn set_offset(buffers: &mut Buffers, m: u32) -> Result<(), Fail> {
-    buffers.set_offset(time(m)?);
-    Ok(())
-}
-
-fn expect_group_start(rt: &impl Abort, buffers: &Buffers, want: Option<u32>) -> Result<(), Fail> {
-    let want = match want {
-        Some(m) => Some(time(m)?),
-        None => None,
-    };
-    assert_eq!(rt; buffers.settings().group_start, want);
-    Ok(())
-}
-
-fn expect_sequence(rt: &impl Abort, buffers: &Buffers, offset: u32) -> Result<(), Fail> {
-    let settings = buffers.settings();
-    let offset = time(offset)?;
-    assert!(rt; settings.sequence && settings.offset == offset);
-    Ok(())
-}
-
-/// Asserts that the window is set, and reset.
-fn sets_the_window(rt: &impl Abort, buffers: &mut Buffers) -> Result<(), Fail> {
+/// Sets the append window, and resets it; whether it is each time as it was set.
+fn sets_window(buffers: &mut Buffers) -> Result<bool, Fail> {
     let one = not_negative(time(1)?).ok_or("no time")?;
     let end = Moment::At(time(9)?);
     buffers.set_window_start(one);
-    assert!(rt; buffers.settings().window_start == one);
     buffers.set_window_end(end);
-    assert_eq!(rt; buffers.settings().window_end, end);
+    let set = buffers.settings();
     buffers.reset_window();
-    let settings = buffers.settings();
-    assert!(rt; settings.window_start == Ticks::zero());
-    assert_eq!(rt; settings.window_end, Moment::Infinite);
-    Ok(())
+    let reset = buffers.settings();
+    let as_set = set.window_start == one && set.window_end == end;
+    let as_reset = reset.window_start == Ticks::zero() && reset.window_end == Moment::Infinite;
+    Ok(as_set && as_reset)
 }
 
-#[test]
-fn resets_and_sets(rt: HostRuntime) -> Result<(), Fail> {
-    let mut buffers = of_both_kinds(&rt)?;
-    buffers.reset_parser();
-    expect_tracks(&rt, &buffers, &[(1, *b"avc1", 1), (2, *b"mp4a", 1)], true)?;
-    expect_group_start(&rt, &buffers, None)?;
-    set_offset(&mut buffers, 1)?;
-    expect_group_start(&rt, &buffers, None)?;
-
-    buffers.set_mode(true);
-    expect_group_start(&rt, &buffers, Some(3000))?;
-    set_offset(&mut buffers, 7)?;
-    expect_sequence(&rt, &buffers, 7)?;
-    expect_group_start(&rt, &buffers, Some(7))?;
-    buffers.reset_parser();
-    expect_group_start(&rt, &buffers, Some(3000))?;
-    buffers.set_mode(false);
-    assert!(rt; !buffers.settings().sequence);
-    sets_the_window(&rt, &mut buffers)?;
-    buffers.change_container(true);
-    let settings = buffers.settings();
-    assert!(rt; settings.generate && settings.sequence);
-    expect_group_start(&rt, &buffers, Some(3000))
+/// Whether the tracks have these numbers, codecs and counts of frames, and each needs a random
+/// access point or none does.
+fn has_tracks(buffers: &Buffers, wanted: &[(u32, [u8; 4], usize)], need_sync: bool) -> bool {
+    let tracks = buffers.tracks();
+    for (i, (id, codec, frames)) in wanted.iter().enumerate() {
+        match tracks.get(i) {
+            Some(track) => {
+                let named = track.id == *id && track.codec == *codec;
+                if !named || track.store.len() != *frames || track.marks.need_sync != need_sync {
+                    return false;
+                }
+            }
+            None => return false,
+        }
+    }
+    tracks.len() == wanted.len()
 }
 
-/// Asserts the first and the last buffered range, which are those of the list of all.
-fn expect_bounds(
-    rt: &impl Abort,
+/// The range of an interval.
+fn span_of(interval: Interval) -> Result<Span, Fail> {
+    Ok(Span {
+        start: time(interval.0)?,
+        end: time(interval.1)?,
+    })
+}
+
+/// Whether a range is that of an interval, or there is neither.
+fn is_span(found: Option<Span>, wanted: Option<Interval>) -> Result<bool, Fail> {
+    match wanted {
+        Some(interval) => Ok(found == Some(span_of(interval)?)),
+        None => Ok(found.is_none()),
+    }
+}
+
+fn are_ranges(ranges: &Ranges, wanted: &[Interval]) -> Result<bool, Fail> {
+    for (i, interval) in wanted.iter().enumerate() {
+        if !is_span(ranges.get(i), Some(*interval))? {
+            return Ok(false);
+        }
+    }
+    Ok(ranges.len() == wanted.len())
+}
+
+/// Whether there is one track, with this number, so many frames and these ranges.
+fn has_view(buffers: &Buffers, id: u32, frames: u64, wanted: &[Interval]) -> Result<bool, Fail> {
+    let views = buffers.track_views()?;
+    let view = views.get(0).ok_or("no view")?;
+    let alone = views.len() == 1 && view.id == id && view.frames == frames;
+    Ok(alone && are_ranges(view.ranges.as_ranges(), wanted)?)
+}
+
+/// Whether these are the first and the last range of all tracks, as the list of all tells them too.
+fn has_bounds(
     buffers: &Buffers,
     ended: bool,
-    first: Option<(u32, u32)>,
-    last: Option<(u32, u32)>,
-) -> Result<(), Fail> {
+    first: Option<Interval>,
+    last: Option<Interval>,
+) -> Result<bool, Fail> {
     let ranges = buffers.buffered(ended)?;
-    assert_eq!(rt; buffers.first_span(ended), span_of(first)?);
-    assert_eq!(rt; buffers.last_span(ended), span_of(last)?);
-    assert_eq!(rt; buffers.first_span(ended), ranges.get(0));
-    assert_eq!(rt; buffers.last_span(ended), ranges.last());
+    let found = (buffers.first_span(ended), buffers.last_span(ended));
+    if found.0 != ranges.get(0) || found.1 != ranges.last() {
+        return Ok(false);
+    }
+    Ok(is_span(found.0, first)? && is_span(found.1, last)?)
+}
+
+/// Whether a time is this one, or there is neither.
+fn is_time(found: Option<Ticks>, wanted: Option<u32>) -> Result<bool, Fail> {
+    match wanted {
+        Some(m) => Ok(found == Some(time(m)?)),
+        None => Ok(found.is_none()),
+    }
+}
+
+/// Whether the track buffers tell what is wanted.
+fn has(buffers: &Buffers, look: &Step) -> Result<bool, Fail> {
+    match *look {
+        Step::AwaitsFirst(wanted) => Ok(buffers.is_awaiting_first() == wanted),
+        Step::Tracks(wanted, need_sync) => Ok(has_tracks(buffers, wanted, need_sync)),
+        Step::View(id, frames, wanted) => has_view(buffers, id, frames, wanted),
+        Step::Used(wanted) => Ok(buffers.used() == wanted),
+        Step::HighestStart(wanted) => is_time(buffers.highest_start(), Some(wanted)),
+        Step::HighestEnd(wanted) => Ok(buffers.highest_end() == Ticks::new(wanted)),
+        Step::Buffered(ended, wanted) => are_ranges(&buffers.buffered(ended)?, wanted),
+        Step::Holding(t, ended, wanted) => is_span(buffers.span_holding(time(t)?, ended), wanted),
+        Step::Bounds(ended, first, last) => has_bounds(buffers, ended, first, last),
+        Step::GroupStart(wanted) => is_time(buffers.settings().group_start, wanted),
+        Step::Offset(wanted) => is_time(Some(buffers.settings().offset), Some(wanted)),
+        Step::Sequence(wanted) => Ok(buffers.settings().sequence == wanted),
+        Step::Generates(wanted) => Ok(buffers.settings().generate == wanted),
+        _ => Ok(false),
+    }
+}
+
+/// Takes a step; whether that comes of it which is wanted.
+fn does(alloc: Global, buffers: &mut Buffers, step: &Step) -> Result<bool, Fail> {
+    match *step {
+        Step::Receive(tracks, duration, wanted) => {
+            let duration = match duration {
+                Duration::Nan => Moment::Nan,
+                Duration::Infinite => Moment::Infinite,
+            };
+            let wanted = effect_of(wanted, duration)?;
+            return receives(alloc, buffers, tracks, duration, &wanted);
+        }
+        Step::Process(samples) => return processes_all(alloc, buffers, samples),
+        Step::Flush(samples, far, changes, duration) => {
+            let effect = flush(alloc, buffers, samples, far)?;
+            let wanted = Moment::At(Ticks::new(duration).ok_or("no time")?);
+            return Ok(effect.duration_changes == changes && effect.duration == wanted);
+        }
+        Step::Remove(start) => buffers.remove(time(start)?, Moment::Infinite, Moment::Infinite),
+        Step::Evict(new, quota) => buffers.evict(Ticks::zero(), new, quota, Moment::Infinite),
+        Step::ResetParser => buffers.reset_parser(),
+        Step::SetSequence(sequence) => buffers.set_mode(sequence),
+        Step::SetOffset(offset) => buffers.set_offset(time(offset)?),
+        Step::SetWindow => return sets_window(buffers),
+        Step::ChangeContainer(generate) => buffers.change_container(generate),
+        Step::Renew => *buffers = Buffers::new(alloc, Ticks::zero(), true),
+        look => return has(buffers, &look),
+    }
+    Ok(true)
+}
+
+/// Takes the steps of a case, from a new source buffer in mode "segments" on.
+fn run(rt: &(impl Abort + AllocGlobal), case: &str, steps: &[Step]) -> Result<(), Fail> {
+    let mut buffers = Buffers::new(rt.alloc(), Ticks::zero(), false);
+    for (i, step) in steps.iter().enumerate() {
+        let as_wanted = does(rt.alloc(), &mut buffers, step)?;
+        assert!(rt; as_wanted, "{case}, step {i}");
+    }
+    Ok(())
+}
+
+const FIRST: Receipt = Receipt::Done { first: true };
+
+const LATER: Receipt = Receipt::Done { first: false };
+
+const DIFFERS: Receipt = Receipt::Refused(MediaFault::TracksDiffer);
+
+const UNKNOWN: Receipt = Receipt::Refused(MediaFault::UnknownCodec);
+
+const SECOND_VIDEO: Told = (2, Kind::Video, *b"hvc1");
+
+const THIRD_AUDIO: Told = (3, Kind::Audio, *b"mp4a");
+
+const TEXT: Told = (3, Kind::Other, *b"wvtt");
+
+/// A video track of a codec that the first one did not have.
+const OTHER_VIDEO: &[Told] = &[(9, Kind::Video, *b"hvc1")];
+
+const UNKNOWN_AUDIO: &[Told] = &[VIDEO, (2, Kind::Audio, *b"flac")];
+
+/// What goes on in a later initialization segment: numbers may change, kinds and codecs may not.
+const INITIALIZATION_SEGMENTS: [(&str, &[Step]); 4] = [
+    (
+        "goes_on_by_kind",
+        &[
+            Step::Receive(&[VIDEO, AUDIO], Duration::Infinite, FIRST),
+            Step::Process(&[(1, 0, 3000, true), (2, 0, 1920, true)]),
+            Step::Tracks(&[(1, *b"avc1", 1), (2, *b"mp4a", 1)], false),
+            // The numbers change places, and then both are new.
+            Step::Receive(
+                &[(1, Kind::Audio, *b"mp4a"), (2, Kind::Video, *b"avc1")],
+                Duration::Infinite,
+                LATER,
+            ),
+            Step::Tracks(&[(2, *b"avc1", 1), (1, *b"mp4a", 1)], true),
+            Step::Receive(
+                &[(7, Kind::Video, *b"avc1"), (8, Kind::Audio, *b"mp4a")],
+                Duration::Infinite,
+                LATER,
+            ),
+            Step::Tracks(&[(7, *b"avc1", 1), (8, *b"mp4a", 1)], true),
+        ],
+    ),
+    (
+        "tells_other_tracks",
+        &[
+            Step::Receive(&[VIDEO, SECOND_VIDEO], Duration::Infinite, FIRST),
+            Step::Receive(
+                &[SECOND_VIDEO, (3, Kind::Video, *b"avc1")],
+                Duration::Infinite,
+                DIFFERS,
+            ),
+            Step::Receive(&[VIDEO], Duration::Infinite, DIFFERS),
+            Step::Receive(&[VIDEO, SECOND_VIDEO, AUDIO], Duration::Infinite, DIFFERS),
+            Step::Receive(
+                &[(1, Kind::Video, *b"hvc1"), (2, Kind::Video, *b"avc1")],
+                Duration::Infinite,
+                DIFFERS,
+            ),
+            Step::Receive(&[SECOND_VIDEO, VIDEO], Duration::Infinite, LATER),
+            Step::Tracks(&[(1, *b"avc1", 0), (2, *b"hvc1", 0)], true),
+        ],
+    ),
+    (
+        "changes_codecs_where_it_may",
+        &[
+            Step::Receive(&[VIDEO], Duration::Infinite, FIRST),
+            Step::Receive(OTHER_VIDEO, Duration::Infinite, DIFFERS),
+            Step::ChangeContainer(false),
+            Step::Receive(OTHER_VIDEO, Duration::Infinite, LATER),
+            Step::Tracks(&[(9, *b"hvc1", 0)], true),
+            Step::Receive(&[VIDEO], Duration::Infinite, DIFFERS),
+            Step::Tracks(&[(9, *b"hvc1", 0)], true),
+        ],
+    ),
+    (
+        "tells_what_is_wrong_first",
+        &[
+            // The duration is told before the fault.
+            Step::Receive(
+                &[TEXT],
+                Duration::Nan,
+                Receipt::RefusedWithDuration(MediaFault::NoTracks),
+            ),
+            Step::Receive(UNKNOWN_AUDIO, Duration::Infinite, UNKNOWN),
+            Step::AwaitsFirst(true),
+            // A track that is neither video nor audio may have any codec.
+            Step::Receive(&[TEXT, VIDEO], Duration::Infinite, FIRST),
+            Step::Receive(UNKNOWN_AUDIO, Duration::Infinite, UNKNOWN),
+            Step::Tracks(&[(1, *b"avc1", 0)], true),
+        ],
+    ),
+];
+
+/// Frames that are flushed, removed and evicted, and the settings.
+const CALLS: [(&str, &[Step]); 4] = [
+    (
+        "flushes_frames",
+        &[
+            Step::Receive(&[VIDEO], Duration::Infinite, FIRST),
+            Step::Flush(
+                &[
+                    (1, 0, 3000, true),
+                    (1, 3000, 3000, false),
+                    (1, 6000, 3000, false),
+                ],
+                false,
+                3,
+                14_112_000_000,
+            ),
+            Step::Used(12),
+            Step::HighestStart(6000),
+            Step::HighestEnd(14_112_000_000),
+            Step::Tracks(&[(1, *b"avc1", 3)], false),
+            Step::Buffered(false, &[(0, 9000)]),
+            Step::View(1, 3, &[(0, 9000)]),
+        ],
+    ),
+    // A frame out of range ends it, and what was stored before stays. A frame of no track is passed
+    // over.
+    (
+        "flushes_up_to_a_fault",
+        &[
+            Step::Receive(&[VIDEO], Duration::Infinite, FIRST),
+            Step::Flush(
+                &[
+                    (1, 0, 3000, true),
+                    (1, 3000, 3000, true),
+                    (1, 3000, 3000, false),
+                ],
+                true,
+                1,
+                4_704_000_000,
+            ),
+            Step::Tracks(&[(1, *b"avc1", 1)], false),
+            Step::Process(&[(5, 0, 3000, true)]),
+            Step::Tracks(&[(1, *b"avc1", 1)], false),
+        ],
+    ),
+    (
+        "evicts_frames",
+        &[
+            Step::Receive(&[VIDEO], Duration::Infinite, FIRST),
+            Step::Process(&[(1, 0, 3000, true), (1, 3000, 3000, true)]),
+            Step::Evict(4, 8),
+            Step::Used(4),
+            Step::Buffered(false, &[(0, 3000)]),
+        ],
+    ),
+    (
+        "resets_and_sets",
+        &[
+            Step::Receive(&[VIDEO, AUDIO], Duration::Infinite, FIRST),
+            Step::Process(&[(1, 0, 3000, true), (2, 0, 1920, true)]),
+            Step::ResetParser,
+            Step::Tracks(&[(1, *b"avc1", 1), (2, *b"mp4a", 1)], true),
+            Step::GroupStart(None),
+            Step::SetOffset(1),
+            Step::GroupStart(None),
+            Step::SetSequence(true),
+            Step::GroupStart(Some(3000)),
+            Step::SetOffset(7),
+            Step::Sequence(true),
+            Step::Offset(7),
+            Step::GroupStart(Some(7)),
+            Step::ResetParser,
+            Step::GroupStart(Some(3000)),
+            Step::SetSequence(false),
+            Step::Sequence(false),
+            Step::SetWindow,
+            Step::ChangeContainer(true),
+            Step::Generates(true),
+            Step::Sequence(true),
+            Step::GroupStart(Some(3000)),
+        ],
+    ),
+];
+
+/// The ranges that all tracks have, the range of a time, and the first and the last range.
+const RANGES: [(&str, &[Step]); 6] = [
+    (
+        "buffers_what_all_tracks_have",
+        &[
+            Step::Receive(&[VIDEO, AUDIO], Duration::Infinite, FIRST),
+            Step::Buffered(true, &[]),
+            Step::Process(&[
+                (1, 0, 3000, true),
+                (1, 6000, 3000, true),
+                (2, 1000, 6000, true),
+            ]),
+            Step::Buffered(false, &[(1000, 3000), (6000, 7000)]),
+            Step::Buffered(true, &[(1000, 3000), (6000, 9000)]),
+            Step::Remove(6000),
+            Step::Buffered(false, &[(1000, 3000)]),
+            Step::Renew,
+            Step::Buffered(true, &[]),
+        ],
+    ),
+    // In a gap there is no range, and a range holds the time at which it ends. Where the source is
+    // ended, the last range of each track lasts to the highest end.
+    (
+        "finds_the_range_of_a_time",
+        &[
+            Step::Receive(&[VIDEO, AUDIO], Duration::Infinite, FIRST),
+            Step::Holding(0, true, None),
+            Step::Process(&[
+                (1, 0, 3000, true),
+                (1, 6000, 3000, true),
+                (2, 1000, 6000, true),
+            ]),
+            Step::Holding(999, false, None),
+            Step::Holding(1000, false, Some((1000, 3000))),
+            Step::Holding(3000, true, Some((1000, 3000))),
+            Step::Holding(4000, false, None),
+            Step::Holding(7000, false, Some((6000, 7000))),
+            Step::Holding(8000, false, None),
+            Step::Holding(8000, true, Some((6000, 9000))),
+            Step::Holding(9001, true, None),
+        ],
+    ),
+    (
+        "finds_the_bounds_of_one_track",
+        &[
+            Step::Receive(&[VIDEO], Duration::Infinite, FIRST),
+            Step::Bounds(false, None, None),
+            Step::Bounds(true, None, None),
+            Step::Process(&[
+                (1, 0, 3000, true),
+                (1, 6000, 3000, true),
+                (1, 12000, 3000, true),
+            ]),
+            Step::Bounds(false, Some((0, 3000)), Some((12000, 15000))),
+            Step::Bounds(true, Some((0, 3000)), Some((12000, 15000))),
+            Step::Renew,
+            Step::Bounds(false, None, None),
+            Step::Bounds(true, None, None),
+        ],
+    ),
+    // The first ranges of the two tracks share no tick, and neither do the last ones; where the
+    // source is ended the last ones do.
+    (
+        "finds_the_bounds_behind_ranges_of_one_track",
+        &[
+            Step::Receive(&[VIDEO, AUDIO], Duration::Infinite, FIRST),
+            Step::Process(&[
+                (1, 0, 3000, true),
+                (1, 6000, 3000, true),
+                (1, 12000, 3000, true),
+                (2, 4000, 1000, true),
+                (2, 7000, 1000, true),
+                (2, 10000, 1000, true),
+            ]),
+            Step::Bounds(false, Some((7000, 8000)), Some((7000, 8000))),
+            Step::Bounds(true, Some((7000, 8000)), Some((12000, 15000))),
+        ],
+    ),
+    // A track without a frame, and one whose range lies between those of the other: nothing is
+    // buffered, but at the end of an ended source.
+    (
+        "finds_no_bounds_where_nothing_is_shared",
+        &[
+            Step::Receive(&[VIDEO, AUDIO], Duration::Infinite, FIRST),
+            Step::Process(&[(1, 0, 3000, true), (1, 6000, 3000, true)]),
+            Step::Bounds(false, None, None),
+            Step::Bounds(true, None, None),
+            Step::Process(&[(2, 3000, 3000, true)]),
+            Step::Bounds(false, None, None),
+            Step::Bounds(true, Some((6000, 9000)), Some((6000, 9000))),
+        ],
+    ),
+    (
+        "finds_the_bounds_of_three_tracks",
+        &[
+            Step::Receive(&[VIDEO, AUDIO, THIRD_AUDIO], Duration::Infinite, FIRST),
+            Step::Process(&[
+                (1, 0, 2000, true),
+                (1, 4000, 2000, true),
+                (1, 8000, 2000, true),
+                (2, 1000, 4000, true),
+                (2, 7000, 2000, true),
+                (3, 3000, 1500, true),
+                (3, 8500, 1000, true),
+            ]),
+            Step::Bounds(false, Some((4000, 4500)), Some((8500, 9000))),
+            Step::Bounds(true, Some((4000, 4500)), Some((8500, 10000))),
+        ],
+    ),
+];
+
+#[test]
+fn receives_initialization_segments(rt: HostRuntime) -> Result<(), Fail> {
+    for (case, steps) in &INITIALIZATION_SEGMENTS {
+        run(&rt, case, steps)?;
+    }
     Ok(())
 }
 
 #[test]
-fn finds_the_bounds_of_one_track(rt: HostRuntime) -> Result<(), Fail> {
-    let mut buffers = buffers_with_tracks(&rt, &[VIDEO])?;
-    expect_bounds(&rt, &buffers, false, None, None)?;
-    expect_bounds(&rt, &buffers, true, None, None)?;
-    let samples = [
-        (1, 0, 3000, true),
-        (1, 6000, 3000, true),
-        (1, 12000, 3000, true),
-    ];
-    process_all(rt.alloc(), &mut buffers, &samples)?;
-    expect_bounds(&rt, &buffers, false, Some((0, 3000)), Some((12000, 15000)))?;
-    expect_bounds(&rt, &buffers, true, Some((0, 3000)), Some((12000, 15000)))?;
-    let none = Buffers::new(rt.alloc(), Ticks::zero(), true);
-    expect_bounds(&rt, &none, false, None, None)?;
-    expect_bounds(&rt, &none, true, None, None)
-}
-
-/// The first ranges of the two tracks share no tick, and neither do the last ones; where the source
-/// is ended the last ones do.
-#[test]
-fn finds_the_bounds_behind_ranges_of_one_track(rt: HostRuntime) -> Result<(), Fail> {
-    let mut buffers = buffers_with_tracks(&rt, &[VIDEO, AUDIO])?;
-    let samples = [
-        (1, 0, 3000, true),
-        (1, 6000, 3000, true),
-        (1, 12000, 3000, true),
-        (2, 4000, 1000, true),
-        (2, 7000, 1000, true),
-        (2, 10000, 1000, true),
-    ];
-    process_all(rt.alloc(), &mut buffers, &samples)?;
-    let both = Some((7000, 8000));
-    expect_bounds(&rt, &buffers, false, both, both)?;
-    expect_bounds(&rt, &buffers, true, both, Some((12000, 15000)))
-}
-
-/// A track without a frame, and one whose range lies between those of the other: nothing is
-/// buffered, but at the end of an ended source.
-#[test]
-fn finds_no_bounds_where_nothing_is_shared(rt: HostRuntime) -> Result<(), Fail> {
-    let mut buffers = buffers_with_tracks(&rt, &[VIDEO, AUDIO])?;
-    let samples = [(1, 0, 3000, true), (1, 6000, 3000, true)];
-    process_all(rt.alloc(), &mut buffers, &samples)?;
-    expect_bounds(&rt, &buffers, false, None, None)?;
-    expect_bounds(&rt, &buffers, true, None, None)?;
-    process(rt.alloc(), &mut buffers, &(2, 3000, 3000, true))?;
-    let end = Some((6000, 9000));
-    expect_bounds(&rt, &buffers, false, None, None)?;
-    expect_bounds(&rt, &buffers, true, end, end)
+fn makes_calls(rt: HostRuntime) -> Result<(), Fail> {
+    for (case, steps) in &CALLS {
+        run(&rt, case, steps)?;
+    }
+    Ok(())
 }
 
 #[test]
-fn finds_the_bounds_of_three_tracks(rt: HostRuntime) -> Result<(), Fail> {
-    let mut buffers = buffers_with_tracks(&rt, &[VIDEO, AUDIO, (3, Kind::Audio, *b"mp4a")])?;
-    let samples = [
-        (1, 0, 2000, true),
-        (1, 4000, 2000, true),
-        (1, 8000, 2000, true),
-        (2, 1000, 4000, true),
-        (2, 7000, 2000, true),
-        (3, 3000, 1500, true),
-        (3, 8500, 1000, true),
-    ];
-    process_all(rt.alloc(), &mut buffers, &samples)?;
-    let first = Some((4000, 4500));
-    expect_bounds(&rt, &buffers, false, first, Some((8500, 9000)))?;
-    expect_bounds(&rt, &buffers, true, first, Some((8500, 10000)))
+fn tells_ranges(rt: HostRuntime) -> Result<(), Fail> {
+    for (case, steps) in &RANGES {
+        run(&rt, case, steps)?;
+    }
+    Ok(())
 }

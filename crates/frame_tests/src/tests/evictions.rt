@@ -1,100 +1,183 @@
 //! Worked examples of eviction, on a plain store. Times are in milliseconds, a frame lasts 100 and
 //! has 4 bytes.
 
-use super::frames::{Sample, add_track, assert_left, time};
+use super::frames::{Sample, When, add_track, has_frames, moment, time};
 use eviction::evict;
-use mse_base::{Kind, Moment};
+use mse_base::Kind;
+use std::alloc::Global;
 use std::process::Abort;
 use std::test::Fail;
 use track_store::{FrameStore, ListStore, Marks, Tracks};
 
-/// Three random access points a second apart.
-const SECONDS: [Sample; 3] = [(0, true), (1000, true), (2000, true)];
+/// A name, the kind and the frames of each track, the position, the new bytes, the quota, the
+/// duration, and which frames are left of each track.
+type Case = (
+    &'static str,
+    &'static [(Kind, &'static [Sample])],
+    u16,
+    u64,
+    u64,
+    When,
+    &'static [&'static [u16]],
+);
 
-/// A position, the new bytes, the quota, and which frames are left.
-type Case = (u16, u64, u64, &'static [u16]);
+/// Whether the tracks hold these frames.
+fn are_left<S: FrameStore>(tracks: &Tracks<S>, left: &[&[u16]]) -> Result<bool, Fail> {
+    for (place, frames) in left.iter().enumerate() {
+        if !has_frames(tracks, place, frames)? {
+            return Ok(false);
+        }
+    }
+    Ok(tracks.len() == left.len())
+}
+
+/// Whether an eviction leaves what is wanted, and another one leaves it too.
+fn leaves(alloc: Global, case: &Case) -> Result<bool, Fail> {
+    let (_, lists, position, new_bytes, quota, duration, left) = *case;
+    let position = time(position)?;
+    let duration = moment(duration)?;
+    let mut tracks = Tracks::<ListStore>::new(alloc);
+    for (kind, samples) in lists {
+        add_track(&mut tracks, alloc, *kind, samples, Marks::new())?;
+    }
+    for _ in 0..2 {
+        evict(&mut tracks, position, new_bytes, quota, duration);
+        if !are_left(&tracks, left)? {
+            return Ok(false);
+        }
+    }
+    Ok(true)
+}
+
+/// Three random access points a second apart.
+const SECONDS: &[(Kind, &[Sample])] = &[(Kind::Audio, &[(0, true), (1000, true), (2000, true)])];
+
+const CASES: [Case; 13] = [
+    // The latest first, and no more than is needed.
+    ("latest", SECONDS, 0, 4, 8, When::Infinite, &[&[0]]),
+    ("no_more", SECONDS, 0, 0, 8, When::Infinite, &[&[0, 1000]]),
+    // Before the position the earliest first.
+    (
+        "earliest",
+        SECONDS,
+        2000,
+        0,
+        8,
+        When::Infinite,
+        &[&[1000, 2000]],
+    ),
+    (
+        "two_earliest",
+        SECONDS,
+        2000,
+        4,
+        8,
+        When::Infinite,
+        &[&[2000]],
+    ),
+    // Before the position, then after it; what holds it stays.
+    (
+        "before_and_after",
+        SECONDS,
+        1500,
+        4,
+        8,
+        When::Infinite,
+        &[&[1000]],
+    ),
+    (
+        "all_but_the_position",
+        SECONDS,
+        1500,
+        8,
+        8,
+        When::Infinite,
+        &[&[1000]],
+    ),
+    (
+        "position_in_a_gap",
+        SECONDS,
+        999,
+        100,
+        1,
+        When::Infinite,
+        &[&[0]],
+    ),
+    // Below the quota nothing happens, and at it nothing where the new bytes fit.
+    (
+        "below_the_quota",
+        SECONDS,
+        0,
+        100,
+        13,
+        When::Infinite,
+        &[&[0, 1000, 2000]],
+    ),
+    (
+        "at_the_quota",
+        SECONDS,
+        0,
+        0,
+        12,
+        When::Infinite,
+        &[&[0, 1000, 2000]],
+    ),
+    // The last range reaches to the duration, at which a position is past all of them.
+    (
+        "evicts_up_to_the_duration",
+        SECONDS,
+        2100,
+        4,
+        0,
+        When::At(2100),
+        &[&[]],
+    ),
+    // The first video track leads, though it is not the first track.
+    (
+        "evicts_by_the_first_video_track",
+        &[
+            (Kind::Audio, &[(0, true), (500, true), (1000, true)]),
+            (
+                Kind::Video,
+                &[(0, true), (500, false), (1000, true), (1500, false)],
+            ),
+        ],
+        0,
+        4,
+        20,
+        When::Infinite,
+        &[&[0, 500], &[0, 500]],
+    ),
+    // Without a duration the last range has no end, and nothing of it goes.
+    (
+        "evicts_without_a_duration",
+        SECONDS,
+        3000,
+        100,
+        1,
+        When::Nan,
+        &[&[2000]],
+    ),
+    // What goes of the frames that begin in the range which holds the position: of the lead track a
+    // decoding dependency, and of another track what begins before its next random access point.
+    (
+        "evicts_around_the_position",
+        &[
+            (Kind::Video, &[(0, true), (1200, false), (1000, true)]),
+            (Kind::Audio, &[(0, true), (1100, false), (1500, true)]),
+        ],
+        1300,
+        4,
+        24,
+        When::Infinite,
+        &[&[1000], &[1500]],
+    ),
+];
 
 #[test]
-fn evicts_until_the_new_bytes_fit(rt: HostRuntime) -> Result<(), Fail> {
-    let cases: [Case; 9] = [
-        // The latest first, and no more than is needed.
-        (0, 4, 8, &[0]),
-        (0, 0, 8, &[0, 1000]),
-        // Before the position the earliest first.
-        (2000, 0, 8, &[1000, 2000]),
-        (2000, 4, 8, &[2000]),
-        // Before the position, then after it; what holds it stays.
-        (1500, 4, 8, &[1000]),
-        (1500, 8, 8, &[1000]),
-        (999, 100, 1, &[0]),
-        // Below the quota nothing happens, and at it nothing where the new bytes fit.
-        (0, 100, 13, &[0, 1000, 2000]),
-        (0, 0, 12, &[0, 1000, 2000]),
-    ];
-    for (position, new_bytes, quota, left) in cases {
-        let mut tracks = Tracks::<ListStore>::new(rt.alloc());
-        add_track(&mut tracks, rt.alloc(), Kind::Audio, &SECONDS, Marks::new())?;
-        evict(
-            &mut tracks,
-            time(position)?,
-            new_bytes,
-            quota,
-            Moment::Infinite,
-        );
-        assert_left(&rt, &tracks, 0, left)?;
+fn evicts(rt: HostRuntime) -> Result<(), Fail> {
+    for case in &CASES {
+        assert!(rt; leaves(rt.alloc(), case)?, "{}", case.0);
     }
     Ok(())
-}
-
-/// The last range reaches to the duration, at which a position is past all of them.
-#[test]
-fn evicts_up_to_the_duration(rt: HostRuntime) -> Result<(), Fail> {
-    let mut tracks = Tracks::<ListStore>::new(rt.alloc());
-    add_track(&mut tracks, rt.alloc(), Kind::Audio, &SECONDS, Marks::new())?;
-    let end = time(2100)?;
-    evict(&mut tracks, end, 4, 0, Moment::At(end));
-    assert_left(&rt, &tracks, 0, &[])?;
-    evict(&mut tracks, end, 4, 0, Moment::At(end));
-    assert_left(&rt, &tracks, 0, &[])
-}
-
-/// The first video track leads, though it is not the first track.
-#[test]
-fn evicts_by_the_first_video_track(rt: HostRuntime) -> Result<(), Fail> {
-    let video = [(0, true), (500, false), (1000, true), (1500, false)];
-    let mut tracks = Tracks::<ListStore>::new(rt.alloc());
-    add_track(
-        &mut tracks,
-        rt.alloc(),
-        Kind::Audio,
-        &[(0, true), (500, true), (1000, true)],
-        Marks::new(),
-    )?;
-    add_track(&mut tracks, rt.alloc(), Kind::Video, &video, Marks::new())?;
-    evict(&mut tracks, time(0)?, 4, 20, Moment::Infinite);
-    assert_left(&rt, &tracks, 0, &[0, 500])?;
-    assert_left(&rt, &tracks, 1, &[0, 500])
-}
-
-/// Without a duration the last range has no end, and nothing of it goes.
-#[test]
-fn evicts_without_a_duration(rt: HostRuntime) -> Result<(), Fail> {
-    let mut tracks = Tracks::<ListStore>::new(rt.alloc());
-    add_track(&mut tracks, rt.alloc(), Kind::Audio, &SECONDS, Marks::new())?;
-    evict(&mut tracks, time(3000)?, 100, 1, Moment::Nan);
-    assert_left(&rt, &tracks, 0, &[2000])
-}
-
-/// What goes of the frames that begin in the range which holds the position: of the lead track a
-/// decoding dependency, and of another track what begins before its next random access point.
-#[test]
-fn evicts_around_the_position(rt: HostRuntime) -> Result<(), Fail> {
-    let mut tracks = Tracks::<ListStore>::new(rt.alloc());
-    let video = [(0, true), (1200, false), (1000, true)];
-    add_track(&mut tracks, rt.alloc(), Kind::Video, &video, Marks::new())?;
-    let audio = [(0, true), (1100, false), (1500, true)];
-    add_track(&mut tracks, rt.alloc(), Kind::Audio, &audio, Marks::new())?;
-    evict(&mut tracks, time(1300)?, 4, 24, Moment::Infinite);
-    assert_left(&rt, &tracks, 0, &[1000])?;
-    assert_left(&rt, &tracks, 1, &[1500])
 }

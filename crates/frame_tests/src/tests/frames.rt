@@ -3,9 +3,8 @@
 ghost use Rattle.std.specs.Prelude.{◌≡◌, ◌≤◌, ◌+ℤ◌, pos, ◌≤ℤ◌, length, IfOk, IfSome};
 ghost use Rattle.mse_base.specs.Time.{IsTick};
 
-use mse_base::{Bytes, CodedFrame, Kind, Ticks, convert};
+use mse_base::{Bytes, CodedFrame, Kind, Moment, Ticks, convert};
 use std::alloc::Global;
-use std::process::Abort;
 use std::test::Fail;
 use track_store::{FrameStore, Marks, Stored, Track, Tracks};
 
@@ -15,6 +14,22 @@ pub(super) type Sample = (u16, bool);
 /// A time in milliseconds.
 pub(super) fn time(ms: u16) -> Result<Ticks, Fail> {
     Ok(convert(i128::from(ms), 1000).ok_or("no time")?)
+}
+
+/// A moment, in milliseconds where it is a time.
+#[derive(Clone, Copy)]
+pub(super) enum When {
+    At(u16),
+    Infinite,
+    Nan,
+}
+
+pub(super) fn moment(when: When) -> Result<Moment, Fail> {
+    match when {
+        When::At(ms) => Ok(Moment::At(time(ms)?)),
+        When::Infinite => Ok(Moment::Infinite),
+        When::Nan => Ok(Moment::Nan),
+    }
 }
 
 /// The duration of a frame from `pts`; none where it is negative, or where the end is no tick.
@@ -72,9 +87,10 @@ pub(super) fn add_track<S: FrameStore>(
     kind: Kind,
     samples: &[Sample],
     marks: Marks,
-) -> Result<(), Fail>
-    requires { length samples.now ≤ 100 }
-{
+) -> Result<(), Fail> {
+    if samples.len() > 100 {
+        return Err("more than 100 frames".into());
+    }
     let store = store_of(alloc, samples)?;
     tracks.reserve(1)?;
     tracks.add(Track {
@@ -87,18 +103,18 @@ pub(super) fn add_track<S: FrameStore>(
     Ok(())
 }
 
-/// Asserts that a track holds the frames with these presentation timestamps.
-pub(super) fn assert_left<S: FrameStore>(
-    rt: &impl Abort,
+/// Whether a track holds the frames with these presentation timestamps.
+pub(super) fn has_frames<S: FrameStore>(
     tracks: &Tracks<S>,
     place: usize,
-    left: &[u16],
-) -> Result<(), Fail> {
+    wanted: &[u16],
+) -> Result<bool, Fail> {
     let track = tracks.get(place).ok_or("no track")?;
-    assert_eq!(rt; track.store.len(), left.len());
-    for (i, ms) in left.iter().enumerate() {
-        let stored = track.store.get(i).ok_or("no frame")?;
-        assert_eq!(rt; stored.frame.pts, time(*ms)?);
+    for (i, ms) in wanted.iter().enumerate() {
+        let pts = track.store.get(i).map(|stored| stored.frame.pts);
+        if pts != Some(time(*ms)?) {
+            return Ok(false);
+        }
     }
-    Ok(())
+    Ok(track.store.len() == wanted.len())
 }

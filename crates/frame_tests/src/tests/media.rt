@@ -147,7 +147,7 @@ pub(super) fn feed<S: FrameStore>(
     Ok(place(tracks, settings, index, frame))
 }
 
-/// Places the frames of samples in the track.
+/// Places the frames of samples in the first track.
 pub(super) fn feed_all<S: FrameStore>(
     alloc: Global,
     tracks: &mut Tracks<S>,
@@ -155,14 +155,15 @@ pub(super) fn feed_all<S: FrameStore>(
     scale: u32,
     samples: &[Sample],
 ) -> Result<(), Fail>
-    requires one { length tracks.old.items ≡ 1 }
     requires sound_and_countable { AreSoundAndCountable (states_of S.frames tracks.old.items) }
     requires window_start { pos 0 ≤ℤ settings.old.window_start }
-    ensures one { length tracks.new.items ≡ 1 }
     ensures sound_and_countable { AreSoundAndCountable (states_of S.frames tracks.new.items) }
     ensures window_start { pos 0 ≤ℤ settings.new.window_start }
 {
     for sample in samples {
+        if tracks.len() == 0 {
+            return Err("no track".into());
+        }
         let frame = frame_of(alloc, scale, sample)?;
         let _placed = feed(tracks, settings, 0, frame)?;
     }

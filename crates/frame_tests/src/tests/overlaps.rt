@@ -55,102 +55,181 @@ fn store_of<S: FrameStore>(alloc: Global, intervals: &[Interval]) -> Result<S, F
     Ok(store)
 }
 
-/// Makes room for a new frame, and asserts what is left of the frames.
-fn leaves(
-    rt: &(impl Abort + AllocGlobal),
-    kind: Kind,
-    marks: Marks,
-    frames: &[Interval],
-    new: Interval,
-    left: &[Interval],
-) -> Result<(), Fail> {
+/// The marks of a track whose group has a highest end timestamp, and begins with frame 6; those of
+/// a new track where there is none.
+fn marks_with(highest_end: Option<i32>) -> Result<Marks, Fail> {
+    match highest_end {
+        Some(end) => Ok(Marks {
+            last_decode: Some(Ticks::zero()),
+            last_duration: Some(Ticks::zero()),
+            highest_end: Some(ticks(end)?),
+            group_first: Some(6),
+            need_sync: false,
+            received: 7,
+        }),
+        None => Ok(Marks::new()),
+    }
+}
+
+/// Makes room for a new frame in a track.
+fn make_room_for<S: FrameStore>(track: &mut Track<S>, new: Interval) -> Result<(), Fail> {
+    let pts = ticks(new.0)?;
+    let end = pts.checked_add(ticks(new.1)?).ok_or("no time")?;
+    make_room(track, pts, end);
+    Ok(())
+}
+
+/// Whether a store has frames of these intervals.
+fn has_frames<S: FrameStore>(store: &S, wanted: &[Interval]) -> Result<bool, Fail> {
+    for (i, (begin, duration)) in wanted.iter().enumerate() {
+        let interval = (ticks(*begin)?, ticks(*duration)?);
+        match store.get(i) {
+            Some(stored) => {
+                if (stored.frame.pts, stored.frame.dur) != interval {
+                    return Ok(false);
+                }
+            }
+            None => return Ok(false),
+        }
+    }
+    Ok(store.len() == wanted.len())
+}
+
+/// The kind of a track, the highest end timestamp of its group, its frames, a new frame, and what is
+/// left of the frames where room was made for it.
+type Row = (
+    Kind,
+    Option<i32>,
+    &'static [Interval],
+    Interval,
+    &'static [Interval],
+);
+
+/// Whether what is wanted is left of the frames.
+fn leaves(alloc: Global, row: &Row) -> Result<bool, Fail> {
+    let (kind, highest_end, frames, new, left) = *row;
     let mut track = Track {
         id: 1,
         kind,
         codec: *b"avc1",
-        store: store_of::<ListStore>(rt.alloc(), frames)?,
-        marks,
+        store: store_of::<ListStore>(alloc, frames)?,
+        marks: marks_with(highest_end)?,
     };
-    let pts = ticks(new.0)?;
-    let end = pts.checked_add(ticks(new.1)?).ok_or("no time")?;
-    make_room(&mut track, pts, end);
-    assert_eq!(rt; track.store.len(), left.len(), "{kind:?} {new:?}");
-    for (i, (begin, duration)) in left.iter().enumerate() {
-        let stored = track.store.get(i).ok_or("no frame")?;
-        let found = (stored.frame.pts, stored.frame.dur);
-        let want = (ticks(*begin)?, ticks(*duration)?);
-        assert!(rt; found == want, "{kind:?} {new:?}, frame {i}");
-    }
-    Ok(())
+    make_room_for(&mut track, new)?;
+    has_frames(&track.store, left)
 }
 
-/// A frame is overlapped from its presentation timestamp on, and not at its end.
-#[test]
-fn overlaps_up_to_the_end(rt: HostRuntime) -> Result<(), Fail> {
-    let table: [(i32, &[Interval], &[Interval]); 5] = [
-        (9, &[(10, 20)], &[(10, 20)]),
-        (10, &[], &[]),
-        (11, &[], &[(10, 1)]),
-        (29, &[], &[(10, 19)]),
-        (30, &[(10, 20)], &[(10, 20)]),
-    ];
-    for (pts, video, audio) in table {
-        // A new frame of no duration removes no other frames.
-        let new = (pts, 0);
-        leaves(&rt, Kind::Video, Marks::new(), &[(10, 20)], new, video)?;
-        leaves(&rt, Kind::Audio, Marks::new(), &[(10, 20)], new, audio)?;
-    }
-    Ok(())
-}
+/// The frames of a group that has begun.
+const GROUP: &[Interval] = &[(0, 20), (7, 0), (8, 0), (10, 0), (20, 0), (19, 0), (15, 0)];
 
-/// Of several frames that hold the time the one that begins last is overlapped, and of those that
-/// begin together the one appended later.
-#[test]
-fn overlaps_the_later_appended(rt: HostRuntime) -> Result<(), Fail> {
-    let table: [(i32, [Interval; 2], [Interval; 1], [Interval; 2]); 4] = [
-        (10, [(0, 20), (0, 30)], [(0, 20)], [(0, 20), (0, 10)]),
-        (10, [(0, 30), (0, 20)], [(0, 30)], [(0, 30), (0, 10)]),
-        (20, [(0, 30), (0, 20)], [(0, 20)], [(0, 20), (0, 20)]),
-        (10, [(1, 20), (0, 30)], [(0, 30)], [(1, 9), (0, 30)]),
-    ];
-    for (pts, frames, video, audio) in table {
-        let new = (pts, 0);
-        leaves(&rt, Kind::Video, Marks::new(), &frames, new, &video)?;
-        leaves(&rt, Kind::Audio, Marks::new(), &frames, new, &audio)?;
-    }
-    Ok(())
-}
+const CASES: [(&str, &[Row]); 4] = [
+    // A frame is overlapped from its presentation timestamp on, and not at its end. A new frame of
+    // no duration removes no other frames.
+    (
+        "overlaps_up_to_the_end",
+        &[
+            (Kind::Video, None, &[(10, 20)], (9, 0), &[(10, 20)]),
+            (Kind::Audio, None, &[(10, 20)], (9, 0), &[(10, 20)]),
+            (Kind::Video, None, &[(10, 20)], (10, 0), &[]),
+            (Kind::Audio, None, &[(10, 20)], (10, 0), &[]),
+            (Kind::Video, None, &[(10, 20)], (11, 0), &[]),
+            (Kind::Audio, None, &[(10, 20)], (11, 0), &[(10, 1)]),
+            (Kind::Video, None, &[(10, 20)], (29, 0), &[]),
+            (Kind::Audio, None, &[(10, 20)], (29, 0), &[(10, 19)]),
+            (Kind::Video, None, &[(10, 20)], (30, 0), &[(10, 20)]),
+            (Kind::Audio, None, &[(10, 20)], (30, 0), &[(10, 20)]),
+        ],
+    ),
+    // Of several frames that hold the time the one that begins last is overlapped, and of those
+    // that begin together the one appended later.
+    (
+        "overlaps_the_later_appended",
+        &[
+            (Kind::Video, None, &[(0, 20), (0, 30)], (10, 0), &[(0, 20)]),
+            (
+                Kind::Audio,
+                None,
+                &[(0, 20), (0, 30)],
+                (10, 0),
+                &[(0, 20), (0, 10)],
+            ),
+            (Kind::Video, None, &[(0, 30), (0, 20)], (10, 0), &[(0, 30)]),
+            (
+                Kind::Audio,
+                None,
+                &[(0, 30), (0, 20)],
+                (10, 0),
+                &[(0, 30), (0, 10)],
+            ),
+            (Kind::Video, None, &[(0, 30), (0, 20)], (20, 0), &[(0, 20)]),
+            (
+                Kind::Audio,
+                None,
+                &[(0, 30), (0, 20)],
+                (20, 0),
+                &[(0, 20), (0, 20)],
+            ),
+            (Kind::Video, None, &[(1, 20), (0, 30)], (10, 0), &[(0, 30)]),
+            (
+                Kind::Audio,
+                None,
+                &[(1, 20), (0, 30)],
+                (10, 0),
+                &[(1, 9), (0, 30)],
+            ),
+        ],
+    ),
+    // With no highest end timestamp the frames go that begin from the start of the new one on and
+    // before its end.
+    (
+        "first_frame_of_a_group",
+        &[
+            (
+                Kind::Video,
+                None,
+                &[(9, 0), (10, 0), (11, 0), (19, 0), (20, 0)],
+                (10, 10),
+                &[(9, 0), (20, 0)],
+            ),
+            (
+                Kind::Video,
+                None,
+                &[(9, 0), (10, 0), (11, 0), (19, 0), (20, 0)],
+                (10, 0),
+                &[(9, 0), (10, 0), (11, 0), (19, 0), (20, 0)],
+            ),
+        ],
+    ),
+    // With a highest end timestamp that is not above the start of the new frame the frames go that
+    // begin from there on, but for those of its own group, and the overlapped frame stays.
+    (
+        "next_frame_of_a_group",
+        &[
+            (
+                Kind::Video,
+                Some(8),
+                GROUP,
+                (10, 10),
+                &[(0, 20), (7, 0), (20, 0), (15, 0)],
+            ),
+            (
+                Kind::Video,
+                Some(10),
+                GROUP,
+                (10, 10),
+                &[(0, 20), (7, 0), (8, 0), (20, 0), (15, 0)],
+            ),
+            (Kind::Video, Some(11), GROUP, (10, 10), GROUP),
+        ],
+    ),
+];
 
-/// With no highest end timestamp the frames go that begin from the start of the new one on and
-/// before its end.
 #[test]
-fn first_frame_of_a_group(rt: HostRuntime) -> Result<(), Fail> {
-    let frames = [(9, 0), (10, 0), (11, 0), (19, 0), (20, 0)];
-    let left = [(9, 0), (20, 0)];
-    leaves(&rt, Kind::Video, Marks::new(), &frames, (10, 10), &left)?;
-    leaves(&rt, Kind::Video, Marks::new(), &frames, (10, 0), &frames)
-}
-
-/// With a highest end timestamp that is not above the start of the new frame the frames go that
-/// begin from there on, but for those of its own group, and the overlapped frame stays.
-#[test]
-fn next_frame_of_a_group(rt: HostRuntime) -> Result<(), Fail> {
-    let frames = [(0, 20), (7, 0), (8, 0), (10, 0), (20, 0), (19, 0), (15, 0)];
-    let table: [(i32, &[Interval]); 3] = [
-        (8, &[(0, 20), (7, 0), (20, 0), (15, 0)]),
-        (10, &[(0, 20), (7, 0), (8, 0), (20, 0), (15, 0)]),
-        (11, &frames),
-    ];
-    for (highest, left) in table {
-        let marks = Marks {
-            last_decode: Some(Ticks::zero()),
-            last_duration: Some(Ticks::zero()),
-            highest_end: Some(ticks(highest)?),
-            group_first: Some(6),
-            need_sync: false,
-            received: 7,
-        };
-        leaves(&rt, Kind::Video, marks, &frames, (10, 10), left)?;
+fn makes_room(rt: HostRuntime) -> Result<(), Fail> {
+    for (case, rows) in &CASES {
+        for (i, row) in rows.iter().enumerate() {
+            assert!(rt; leaves(rt.alloc(), row)?, "{case}, row {i}");
+        }
     }
     Ok(())
 }
@@ -168,9 +247,9 @@ fn removes_the_greatest_serial(rt: HostRuntime) -> Result<(), Fail> {
         store,
         marks: Marks::new(),
     };
-    make_room(&mut track, ticks(10)?, ticks(15)?);
-    assert_eq!(rt; track.store.len(), 1);
-    make_room(&mut track, ticks(10)?, ticks(16)?);
-    assert_eq!(rt; track.store.len(), 0);
+    make_room_for(&mut track, (10, 5))?;
+    assert!(rt; track.store.len() == 1, "before the frame");
+    make_room_for(&mut track, (10, 6))?;
+    assert!(rt; track.store.len() == 0, "over the frame");
     Ok(())
 }

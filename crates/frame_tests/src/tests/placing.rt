@@ -47,70 +47,503 @@ fn beside_unsound<S: FrameStore>(alloc: Global) -> Result<Tracks<S>, OutOfMemory
     Ok(tracks)
 }
 
-/// Places a sample of the track at a place, in milliseconds, and asserts what becomes of it.
-fn feed_at<S: FrameStore>(
-    rt: &(impl Abort + AllocGlobal),
+/// A change of the settings, samples that are placed, or what then holds. Times are in units of
+/// which a second has as many as the case says.
+#[derive(Clone, Copy)]
+enum Step {
+    SetSequence,
+    SetGenerate,
+    SetOffset(i32),
+    SetWindowStart(i32),
+    SetGroupStart(i32),
+    /// Samples are placed in the first track.
+    PlaceAll(&'static [Sample]),
+    /// A sample is placed in the track at a place, and what becomes of it.
+    Place(usize, Sample, Placed),
+    Offset(i32),
+    GroupEnd(i32),
+    NoGroupStart,
+    /// The serials and media times of the frames of the first track.
+    Frames(&'static [(u64, i32)]),
+    /// The ranges of the first track, in ticks.
+    Ranges(&'static [(i64, i64)]),
+    HighestEnd(i32),
+    /// Of the track at a place, the serial of the random access point with which its group begins,
+    /// how many frames it received, and the last decode timestamp.
+    Marks(usize, Option<u64>, u64, i32),
+    /// The track at a place needs a random access point, and its group begins anew.
+    Unset(usize),
+}
+
+/// Changes the settings.
+fn set(settings: &mut Settings, scale: u32, step: &Step) -> Result<(), Fail>
+    requires window_start { pos 0 ≤ℤ settings.old.window_start }
+    ensures window_start { pos 0 ≤ℤ settings.new.window_start }
+{
+    match *step {
+        Step::SetSequence => settings.sequence = true,
+        Step::SetGenerate => settings.generate = true,
+        Step::SetOffset(m) => settings.offset = time(i128::from(m), scale)?,
+        Step::SetWindowStart(m) => {
+            let start = time(i128::from(m), scale)?;
+            settings.window_start = not_negative(start).ok_or("no time")?;
+        }
+        Step::SetGroupStart(m) => settings.group_start = Some(time(i128::from(m), scale)?),
+        _ => {}
+    }
+    Ok(())
+}
+
+/// Places a sample in the track at a place; whether that becomes of it which is wanted.
+fn places<S: FrameStore>(
+    alloc: Global,
     tracks: &mut Tracks<S>,
     settings: &mut Settings,
-    index: usize,
-    sample: &Sample,
-    want: Placed,
-) -> Result<(), Fail>
-    requires in_range { index < length tracks.old.items }
+    scale: u32,
+    step: (usize, Sample, Placed),
+) -> Result<bool, Fail>
     requires sound_and_countable { AreSoundAndCountable (states_of S.frames tracks.old.items) }
     requires window_start { pos 0 ≤ℤ settings.old.window_start }
-    ensures len { length tracks.new.items ≡ length tracks.old.items }
     ensures sound_and_countable { AreSoundAndCountable (states_of S.frames tracks.new.items) }
     ensures window_start { pos 0 ≤ℤ settings.new.window_start }
 {
-    let frame = frame_of(rt.alloc(), 1000, sample)?;
-    let placed = feed(tracks, settings, index, frame)?;
-    assert_eq!(rt; placed, want, "{sample:?}");
-    Ok(())
+    let (index, sample, wanted) = step;
+    let frame = frame_of(alloc, scale, &sample)?;
+    if index >= tracks.len() {
+        return Err("no track".into());
+    }
+    Ok(feed(tracks, settings, index, frame)? == wanted)
 }
 
-/// Asserts that the track holds the frames with these serials and media times, and has these
-/// ranges.
-fn assert_held<S: FrameStore>(
-    rt: &impl Abort,
+/// Whether the track holds the frames with these serials and media times.
+fn has_frames<S: FrameStore>(
     tracks: &Tracks<S>,
     scale: u32,
-    frames: &[(u64, u32)],
-    ranges: &[(i64, i64)],
-) -> Result<(), Fail> {
+    wanted: &[(u64, i32)],
+) -> Result<bool, Fail> {
     let track = tracks.get(0).ok_or("no track")?;
-    assert_eq!(rt; track.store.len(), frames.len());
-    for (i, (serial, begin)) in frames.iter().enumerate() {
-        let stored = track.store.get(i).ok_or("no frame")?;
-        assert_eq!(rt; stored.serial, *serial, "frame {i}");
-        assert!(rt;
-            stored.frame.pts == time(i128::from(*begin), scale)?,
-            "frame {i}"
-        );
+    for (i, (serial, begin)) in wanted.iter().enumerate() {
+        let pts = time(i128::from(*begin), scale)?;
+        match track.store.get(i) {
+            Some(stored) => {
+                if stored.serial != *serial || stored.frame.pts != pts {
+                    return Ok(false);
+                }
+            }
+            None => return Ok(false),
+        }
     }
-    let joined = track.store.copy_ranges()?;
-    assert_eq!(rt; joined.len(), ranges.len());
-    for (i, (start, end)) in ranges.iter().enumerate() {
-        let span = joined.get(i).ok_or("no range")?;
-        assert!(rt; span.start.get() == i128::from(*start), "range {i}");
-        assert!(rt; span.end.get() == i128::from(*end), "range {i}");
+    Ok(track.store.len() == wanted.len())
+}
+
+/// Whether the track has these ranges.
+fn has_ranges<S: FrameStore>(tracks: &Tracks<S>, wanted: &[(i64, i64)]) -> Result<bool, Fail> {
+    let track = tracks.get(0).ok_or("no track")?;
+    let ranges = track.store.copy_ranges()?;
+    for (i, (start, end)) in wanted.iter().enumerate() {
+        match ranges.get(i) {
+            Some(span) => {
+                let bounds = (span.start.get(), span.end.get());
+                if bounds != (i128::from(*start), i128::from(*end)) {
+                    return Ok(false);
+                }
+            }
+            None => return Ok(false),
+        }
+    }
+    Ok(ranges.len() == wanted.len())
+}
+
+/// The marks of the track at a place.
+fn marks_at<S: FrameStore>(tracks: &Tracks<S>, place: usize) -> Result<Marks, Fail> {
+    Ok(tracks.get(place).ok_or("no track")?.marks)
+}
+
+/// Whether tracks and settings are as is wanted.
+fn has<S: FrameStore>(
+    tracks: &Tracks<S>,
+    settings: &Settings,
+    scale: u32,
+    step: &Step,
+) -> Result<bool, Fail> {
+    match *step {
+        Step::Offset(m) => Ok(settings.offset == time(i128::from(m), scale)?),
+        Step::GroupEnd(m) => Ok(settings.group_end == time(i128::from(m), scale)?),
+        Step::NoGroupStart => Ok(settings.group_start.is_none()),
+        Step::Frames(wanted) => has_frames(tracks, scale, wanted),
+        Step::Ranges(wanted) => has_ranges(tracks, wanted),
+        Step::HighestEnd(m) => {
+            let end = time(i128::from(m), scale)?;
+            Ok(marks_at(tracks, 0)?.highest_end == Some(end))
+        }
+        Step::Marks(place, first, received, decode) => {
+            let marks = marks_at(tracks, place)?;
+            let decode = time(i128::from(decode), scale)?;
+            let counts = marks.group_first == first && marks.received == received;
+            Ok(counts && marks.last_decode == Some(decode))
+        }
+        Step::Unset(place) => {
+            let marks = marks_at(tracks, place)?;
+            Ok(marks == marks.unset_marks())
+        }
+        _ => Ok(true),
+    }
+}
+
+/// Takes a step; whether that comes of it which is wanted.
+fn does<S: FrameStore>(
+    alloc: Global,
+    tracks: &mut Tracks<S>,
+    settings: &mut Settings,
+    scale: u32,
+    step: &Step,
+) -> Result<bool, Fail>
+    requires sound_and_countable { AreSoundAndCountable (states_of S.frames tracks.old.items) }
+    requires window_start { pos 0 ≤ℤ settings.old.window_start }
+    ensures sound_and_countable { AreSoundAndCountable (states_of S.frames tracks.new.items) }
+    ensures window_start { pos 0 ≤ℤ settings.new.window_start }
+{
+    match *step {
+        Step::PlaceAll(samples) => {
+            feed_all(alloc, tracks, settings, scale, samples)?;
+            Ok(true)
+        }
+        Step::Place(index, sample, wanted) => {
+            places(alloc, tracks, settings, scale, (index, sample, wanted))
+        }
+        _ => {
+            set(settings, scale, step)?;
+            has(tracks, settings, scale, step)
+        }
+    }
+}
+
+/// A name, the kinds of the tracks (one, or video and audio), of how many units a second of media
+/// time is, and the steps.
+type Case = (&'static str, &'static [Kind], u32, &'static [Step]);
+
+/// Tracks of these kinds with no frames.
+fn tracks_of<S: FrameStore>(alloc: Global, kinds: &[Kind]) -> Result<Tracks<S>, Fail>
+    ensures { IfOk result (λ ts. AreSoundAndCountable (states_of S.frames ts.items)) }
+{
+    match kinds.get(1) {
+        Some(_) => Ok(two_tracks(alloc)?),
+        None => {
+            let kind = kinds.first().ok_or("no kind")?;
+            Ok(one_track(alloc, *kind, 0)?)
+        }
+    }
+}
+
+/// Takes the steps of a case.
+fn run<S: FrameStore>(rt: &(impl Abort + AllocGlobal), case: &Case) -> Result<(), Fail> {
+    let (name, kinds, scale, steps) = *case;
+    let mut tracks = tracks_of::<S>(rt.alloc(), kinds)?;
+    let mut settings = segments();
+    for (i, step) in steps.iter().enumerate() {
+        let as_wanted = does(rt.alloc(), &mut tracks, &mut settings, scale, step)?;
+        assert!(rt; as_wanted, "{name}, step {i}");
     }
     Ok(())
 }
 
-/// Places samples in a new track, and asserts what it then holds.
-fn example(
-    rt: &(impl Abort + AllocGlobal),
-    kind: Kind,
-    scale: u32,
-    samples: &[Sample],
-    frames: &[(u64, u32)],
-    ranges: &[(i64, i64)],
-) -> Result<(), Fail> {
-    let mut tracks = one_track::<ListStore>(rt.alloc(), kind, 0)?;
-    let mut settings = segments();
-    feed_all(rt.alloc(), &mut tracks, &mut settings, scale, samples)?;
-    assert_held(rt, &tracks, scale, frames, ranges)
+const DROPPED: Placed = Placed::Dropped(Why::NoSync);
+
+const VIDEO: &[Kind] = &[Kind::Video];
+
+const AUDIO: &[Kind] = &[Kind::Audio];
+
+const BOTH: &[Kind] = &[Kind::Video, Kind::Audio];
+
+/// A new random access point goes over frames of earlier groups; the frames of one group never
+/// remove each other; and frames before the append window.
+const REPLACEMENTS: [Case; 10] = [
+    // It begins where the second frame does: that one goes, and the two that follow it.
+    (
+        "replaces_older_frames",
+        VIDEO,
+        1000,
+        &[
+            Step::PlaceAll(&REPLACED),
+            Step::Frames(&[(0, 0), (4, 400), (5, 500), (6, 300)]),
+            Step::Ranges(&[(0, 14112000000), (42336000000, 84672000000)]),
+        ],
+    ),
+    // Less than a microsecond after the frame that it overlaps, and a microsecond after it.
+    (
+        "replaces_a_frame_just_before",
+        VIDEO,
+        10_000_000,
+        &[
+            Step::PlaceAll(&[
+                (0, 1000000, 0, true),
+                (1000000, 1000000, 0, true),
+                (9, 1000000, 0, true),
+            ]),
+            Step::Frames(&[(2, 9)]),
+            Step::Ranges(&[(127008, 14112127008)]),
+        ],
+    ),
+    (
+        "replaces_none_a_microsecond_before",
+        VIDEO,
+        10_000_000,
+        &[
+            Step::PlaceAll(&[
+                (0, 1000000, 0, true),
+                (1000000, 1000000, 0, true),
+                (10, 1000000, 0, true),
+            ]),
+            Step::Frames(&[(0, 0), (2, 10)]),
+            Step::Ranges(&[(0, 14112141120)]),
+        ],
+    ),
+    // Sound is cut where the new frame begins, and goes where it begins at the same time.
+    (
+        "cuts_sound",
+        AUDIO,
+        48_000,
+        &[
+            Step::PlaceAll(&[
+                (0, 1024, 0, true),
+                (1024, 1024, 0, true),
+                (512, 1024, 0, true),
+            ]),
+            Step::Frames(&[(0, 0), (2, 512)]),
+            Step::Ranges(&[(0, 4515840000)]),
+        ],
+    ),
+    (
+        "replaces_sound_at_its_time",
+        AUDIO,
+        48_000,
+        &[
+            Step::PlaceAll(&[(0, 1024, 0, true), (1024, 1024, 0, true), (0, 512, 0, true)]),
+            Step::Frames(&[(1, 1024), (2, 0)]),
+            Step::Ranges(&[(0, 1505280000), (3010560000, 6021120000)]),
+        ],
+    ),
+    (
+        "keeps_its_own_group",
+        VIDEO,
+        1000,
+        &[
+            Step::PlaceAll(&[
+                (0, 100, 0, true),
+                (100, 100, 200, false),
+                (200, 100, -100, false),
+                (300, 100, -100, false),
+            ]),
+            Step::Frames(&[(0, 0), (1, 300), (2, 100), (3, 200)]),
+            Step::Ranges(&[(0, 56448000000)]),
+        ],
+    ),
+    (
+        "keeps_two_frames_at_one_time",
+        VIDEO,
+        1000,
+        &[
+            Step::PlaceAll(&[(0, 100, 0, true), (0, 100, 0, false)]),
+            Step::Frames(&[(0, 0), (1, 0)]),
+            Step::Ranges(&[(0, 14112000000)]),
+        ],
+    ),
+    // A frame of no duration, alone, and where the next one begins at its time.
+    (
+        "keeps_a_frame_of_no_duration",
+        VIDEO,
+        1000,
+        &[
+            Step::PlaceAll(&[(0, 0, 0, true)]),
+            Step::Frames(&[(0, 0)]),
+            Step::Ranges(&[]),
+        ],
+    ),
+    (
+        "keeps_a_frame_of_no_duration_between",
+        VIDEO,
+        1000,
+        &[
+            Step::PlaceAll(&[(0, 100, 0, true), (100, 0, 0, false), (100, 100, 0, false)]),
+            Step::Frames(&[(0, 0), (1, 100), (2, 100)]),
+            Step::Ranges(&[(0, 28224000000)]),
+        ],
+    ),
+    // A dropped frame makes a random access point needed, and counts.
+    (
+        "drops_before_the_window",
+        VIDEO,
+        1000,
+        &[
+            Step::PlaceAll(&[(0, 100, 0, true)]),
+            Step::SetWindowStart(150),
+            Step::PlaceAll(&[
+                (100, 100, 0, false),
+                (200, 100, 0, false),
+                (300, 100, 0, true),
+            ]),
+            Step::Frames(&[(0, 0), (3, 300)]),
+            Step::Ranges(&[(0, 14112000000), (42336000000, 56448000000)]),
+        ],
+    ),
+];
+
+/// What a leap of the decode time does, and what is of all tracks.
+const LEAPS: [Case; 8] = [
+    (
+        "goes_on_after_a_discontinuity_in_segments",
+        VIDEO,
+        1000,
+        &[
+            Step::PlaceAll(&[
+                (0, 100, 0, true),
+                (100, 100, 0, false),
+                (1000, 100, 0, false),
+                (1100, 100, 0, true),
+            ]),
+            Step::Frames(&[(0, 0), (1, 100), (3, 1100)]),
+            Step::Ranges(&[(0, 28224000000), (155232000000, 169344000000)]),
+            Step::GroupEnd(1200),
+        ],
+    ),
+    (
+        "goes_on_after_a_discontinuity_in_sequence",
+        VIDEO,
+        1000,
+        &[
+            Step::SetSequence,
+            Step::PlaceAll(&[
+                (0, 100, 0, true),
+                (100, 100, 0, false),
+                (1000, 100, 0, true),
+            ]),
+            Step::Frames(&[(0, 0), (1, 100), (2, 200)]),
+            Step::Ranges(&[(0, 42336000000)]),
+            Step::Offset(-800),
+            Step::GroupEnd(300),
+        ],
+    ),
+    (
+        "generates_timestamps",
+        AUDIO,
+        1000,
+        &[
+            Step::SetSequence,
+            Step::SetGenerate,
+            Step::PlaceAll(&[(7, 100, 0, true), (7, 100, 0, true), (7, 100, 0, true)]),
+            Step::Frames(&[(0, 0), (1, 100), (2, 200)]),
+            Step::Ranges(&[(0, 42336000000)]),
+            Step::Offset(300),
+        ],
+    ),
+    // After a leap of the decode time the group end timestamp is the presentation timestamp with
+    // the offset, be it later or earlier than before, and also where the frame is then dropped.
+    (
+        "leaps_with_an_offset_in_segments",
+        VIDEO,
+        1000,
+        &[
+            Step::SetOffset(-500),
+            Step::Place(0, (600, 100, 0, true), Placed::Stored),
+            Step::Place(0, (1600, 100, 30, false), DROPPED),
+            Step::GroupEnd(1130),
+            Step::Place(0, (1700, 100, 0, true), Placed::Stored),
+            Step::GroupEnd(1300),
+            Step::Place(0, (650, 100, 0, false), DROPPED),
+            Step::GroupEnd(150),
+            Step::Offset(-500),
+        ],
+    ),
+    // In mode "sequence" the new group begins where the old one ends with its offset, and the new
+    // offset does not count the old one.
+    (
+        "leaps_with_an_offset_in_sequence",
+        VIDEO,
+        1000,
+        &[
+            Step::SetSequence,
+            Step::SetOffset(-500),
+            Step::Place(0, (600, 100, 0, true), Placed::Stored),
+            Step::GroupEnd(200),
+            Step::Place(0, (1600, 100, 30, false), DROPPED),
+            Step::GroupEnd(200),
+            Step::NoGroupStart,
+            Step::Offset(-1430),
+            Step::Place(0, (1700, 100, 0, true), Placed::Stored),
+            Step::GroupEnd(370),
+            Step::Frames(&[(0, 100), (2, 270)]),
+            Step::Ranges(&[(14112000000, 28224000000), (38102400000, 52214400000)]),
+        ],
+    ),
+    // Where a frame begins at a group start timestamp, the other track needs a random access point,
+    // and keeps its other marks.
+    (
+        "a_group_start_is_of_all_tracks",
+        BOTH,
+        1000,
+        &[
+            Step::SetSequence,
+            Step::Place(0, (0, 100, 0, true), Placed::Stored),
+            Step::Place(1, (0, 100, 0, true), Placed::Stored),
+            Step::Place(0, (100, 100, 0, false), Placed::Stored),
+            Step::SetGroupStart(150),
+            Step::Place(1, (200, 100, 0, true), Placed::Stored),
+            Step::Place(0, (200, 100, 0, false), DROPPED),
+            Step::Place(0, (300, 100, 0, true), Placed::Stored),
+            Step::Marks(0, Some(0), 4, 250),
+        ],
+    ),
+    // Where the decode time of one track leaps, the other needs a random access point, and its
+    // group begins anew.
+    (
+        "a_leap_is_of_all_tracks",
+        BOTH,
+        1000,
+        &[
+            Step::Place(0, (0, 100, 0, true), Placed::Stored),
+            Step::Place(1, (0, 100, 0, true), Placed::Stored),
+            Step::Place(1, (100, 100, 0, false), Placed::Stored),
+            Step::Place(0, (1000, 100, 0, true), Placed::Stored),
+            Step::Unset(1),
+            Step::Place(1, (200, 100, 0, false), DROPPED),
+            Step::Place(1, (300, 100, 0, true), Placed::Stored),
+            Step::Marks(1, Some(3), 4, 300),
+        ],
+    ),
+    // A frame that ends earlier than one before it, or with it, leaves the highest end timestamp.
+    (
+        "keeps_the_highest_end",
+        VIDEO,
+        1000,
+        &[
+            Step::PlaceAll(&[(0, 100, 0, true)]),
+            Step::HighestEnd(100),
+            Step::PlaceAll(&[(100, 100, 200, false)]),
+            Step::HighestEnd(400),
+            Step::PlaceAll(&[(200, 100, -100, false)]),
+            Step::HighestEnd(400),
+            Step::PlaceAll(&[(300, 100, 0, false)]),
+            Step::HighestEnd(400),
+            Step::PlaceAll(&[(400, 1, 0, false)]),
+            Step::HighestEnd(401),
+        ],
+    ),
+];
+
+#[test]
+fn replaces(rt: HostRuntime) -> Result<(), Fail> {
+    for case in &REPLACEMENTS {
+        run::<ListStore>(&rt, case)?;
+    }
+    Ok(())
+}
+
+#[test]
+fn goes_on_after_leaps(rt: HostRuntime) -> Result<(), Fail> {
+    for case in &LEAPS {
+        run::<ListStore>(&rt, case)?;
+    }
+    Ok(())
 }
 
 /// What a track with no frames answers to its first frame, its marks, and the settings after it.
@@ -141,32 +574,56 @@ fn first_call(
     Ok((placed, track.marks, track.store.len()))
 }
 
+/// A name; how much later the append window starts and the offset, in ticks; how many frames the
+/// track has received; the time of the frame, and whether it is a random access point; and what
+/// becomes of it. A frame that is refused leaves marks and settings.
+type FirstFrame = (&'static str, i128, i128, u64, i64, bool, Placed);
+
+const FIRST_FRAMES: [FirstFrame; 4] = [
+    (
+        "before_the_window",
+        1,
+        0,
+        0,
+        0,
+        true,
+        Placed::Dropped(Why::Window),
+    ),
+    ("no_random_access_point", 0, 0, 0, 0, false, DROPPED),
+    ("far", 0, 1 << 110, 0, 1, true, Placed::TimeRange),
+    ("received_too_many", 0, 0, 1 << 62, 0, true, Placed::Counts),
+];
+
+/// Whether what is wanted becomes of a first frame, which is not stored.
+fn is_answered(alloc: Global, frame: &FirstFrame) -> Result<bool, Fail> {
+    let (_, start, offset, received, pts, sync, wanted) = *frame;
+    let start = Ticks::new(start).ok_or("no time")?;
+    if received > 1 << 62 {
+        return Err("too many frames".into());
+    }
+    let mut settings = segments();
+    settings.window_start = not_negative(start).ok_or("no time")?;
+    settings.offset = Ticks::new(offset).ok_or("no time")?;
+    let before = settings;
+    let (placed, marks, len) = first_call(alloc, &mut settings, received, pts, sync)?;
+    let after = match wanted {
+        Placed::Stored | Placed::Dropped(_) => marks.received == 1 && marks.need_sync,
+        Placed::TimeRange | Placed::Counts => {
+            let unset = Marks {
+                received,
+                ..Marks::new()
+            };
+            marks == unset && settings == before
+        }
+    };
+    Ok(placed == wanted && after && len == 0)
+}
+
 #[test]
 fn answers_to_a_first_frame(rt: HostRuntime) -> Result<(), Fail> {
-    let alloc = rt.alloc();
-    let one = Ticks::new(1).ok_or("no time")?;
-
-    let mut late = segments();
-    late.window_start = not_negative(one).ok_or("no time")?;
-    let (placed, marks, len) = first_call(alloc, &mut late, 0, 0, true)?;
-    assert_eq!(rt; placed, Placed::Dropped(Why::Window));
-    assert!(rt; marks.received == 1 && marks.need_sync && len == 0);
-
-    let (placed, marks, len) = first_call(alloc, &mut segments(), 0, 0, false)?;
-    assert_eq!(rt; placed, Placed::Dropped(Why::NoSync));
-    assert!(rt; marks.received == 1 && marks.need_sync && len == 0);
-
-    let mut far = segments();
-    far.offset = Ticks::new(1 << 110).ok_or("no time")?;
-    let before = far;
-    let (placed, marks, len) = first_call(alloc, &mut far, 0, 1, true)?;
-    assert_eq!(rt; placed, Placed::TimeRange);
-    assert!(rt; marks == Marks::new() && len == 0 && far == before);
-
-    let mut full = segments();
-    let (placed, marks, len) = first_call(alloc, &mut full, 1 << 62, 0, true)?;
-    assert_eq!(rt; placed, Placed::Counts);
-    assert!(rt; marks.received == 1 << 62 && len == 0 && full == segments());
+    for frame in &FIRST_FRAMES {
+        assert!(rt; is_answered(rt.alloc(), frame)?, "{}", frame.0);
+    }
     Ok(())
 }
 
@@ -176,308 +633,10 @@ fn begins_at_the_group_start(rt: HostRuntime) -> Result<(), Fail> {
     sequence.sequence = true;
     sequence.group_start = Ticks::new(100);
     let (placed, marks, len) = first_call(rt.alloc(), &mut sequence, 0, 5, true)?;
-    assert_eq!(rt; placed, Placed::Stored);
-    assert_eq!(rt; len, 1);
+    assert!(rt; placed == Placed::Stored && len == 1);
     assert!(rt; sequence.offset.get() == 95 && sequence.group_end.get() == 110);
     assert!(rt; sequence.group_start == None);
     assert!(rt; marks.last_decode == Ticks::new(100) && marks.highest_end == Ticks::new(110));
-    Ok(())
-}
-
-/// A new random access point goes over frames of earlier groups.
-#[test]
-fn replaces_older_frames(rt: HostRuntime) -> Result<(), Fail> {
-    // It begins where the second frame does: that one goes, and the two that follow it.
-    let left = [(0, 0), (4, 400), (5, 500), (6, 300)];
-    let ranges = [(0, 14112000000), (42336000000, 84672000000)];
-    example(&rt, Kind::Video, 1000, &REPLACED, &left, &ranges)?;
-
-    // Less than a microsecond after the frame that it overlaps, and a microsecond after it.
-    let near: [Sample; 3] = [
-        (0, 1000000, 0, true),
-        (1000000, 1000000, 0, true),
-        (9, 1000000, 0, true),
-    ];
-    example(
-        &rt,
-        Kind::Video,
-        10000000,
-        &near,
-        &[(2, 9)],
-        &[(127008, 14112127008)],
-    )?;
-    let apart: [Sample; 3] = [
-        (0, 1000000, 0, true),
-        (1000000, 1000000, 0, true),
-        (10, 1000000, 0, true),
-    ];
-    example(
-        &rt,
-        Kind::Video,
-        10000000,
-        &apart,
-        &[(0, 0), (2, 10)],
-        &[(0, 14112141120)],
-    )?;
-
-    // Sound is cut where the new frame begins, and goes where it begins at the same time.
-    let sound: [Sample; 3] = [
-        (0, 1024, 0, true),
-        (1024, 1024, 0, true),
-        (512, 1024, 0, true),
-    ];
-    example(
-        &rt,
-        Kind::Audio,
-        48000,
-        &sound,
-        &[(0, 0), (2, 512)],
-        &[(0, 4515840000)],
-    )?;
-    let again: [Sample; 3] = [(0, 1024, 0, true), (1024, 1024, 0, true), (0, 512, 0, true)];
-    example(
-        &rt,
-        Kind::Audio,
-        48000,
-        &again,
-        &[(1, 1024), (2, 0)],
-        &[(0, 1505280000), (3010560000, 6021120000)],
-    )
-}
-
-/// The frames of one group never remove each other.
-#[test]
-fn keeps_its_own_group(rt: HostRuntime) -> Result<(), Fail> {
-    let reordered: [Sample; 4] = [
-        (0, 100, 0, true),
-        (100, 100, 200, false),
-        (200, 100, -100, false),
-        (300, 100, -100, false),
-    ];
-    let held = [(0, 0), (1, 300), (2, 100), (3, 200)];
-    example(
-        &rt,
-        Kind::Video,
-        1000,
-        &reordered,
-        &held,
-        &[(0, 56448000000)],
-    )?;
-
-    // Two frames at one time.
-    let twice: [Sample; 2] = [(0, 100, 0, true), (0, 100, 0, false)];
-    example(
-        &rt,
-        Kind::Video,
-        1000,
-        &twice,
-        &[(0, 0), (1, 0)],
-        &[(0, 14112000000)],
-    )?;
-
-    // A frame of no duration, alone, and where the next one begins at its time.
-    let empty: [Sample; 1] = [(0, 0, 0, true)];
-    example(&rt, Kind::Video, 1000, &empty, &[(0, 0)], &[])?;
-    let between: [Sample; 3] = [(0, 100, 0, true), (100, 0, 0, false), (100, 100, 0, false)];
-    let all = [(0, 0), (1, 100), (2, 100)];
-    example(&rt, Kind::Video, 1000, &between, &all, &[(0, 28224000000)])
-}
-
-/// A dropped frame makes a random access point needed, and counts.
-#[test]
-fn drops_before_the_window(rt: HostRuntime) -> Result<(), Fail> {
-    let alloc = rt.alloc();
-    let mut tracks = one_track::<ListStore>(alloc, Kind::Video, 0)?;
-    let mut settings = segments();
-    feed_all(
-        alloc,
-        &mut tracks,
-        &mut settings,
-        1000,
-        &[(0, 100, 0, true)],
-    )?;
-    settings.window_start = not_negative(time(150, 1000)?).ok_or("no time")?;
-    let more: [Sample; 3] = [
-        (100, 100, 0, false),
-        (200, 100, 0, false),
-        (300, 100, 0, true),
-    ];
-    feed_all(alloc, &mut tracks, &mut settings, 1000, &more)?;
-    let ranges = [(0, 14112000000), (42336000000, 56448000000)];
-    assert_held(&rt, &tracks, 1000, &[(0, 0), (3, 300)], &ranges)
-}
-
-/// What a leap of the decode time does in each mode, and generated timestamps.
-#[test]
-fn goes_on_after_a_discontinuity(rt: HostRuntime) -> Result<(), Fail> {
-    let alloc = rt.alloc();
-    let mut tracks = one_track::<ListStore>(alloc, Kind::Video, 0)?;
-    let mut settings = segments();
-    let leap: [Sample; 4] = [
-        (0, 100, 0, true),
-        (100, 100, 0, false),
-        (1000, 100, 0, false),
-        (1100, 100, 0, true),
-    ];
-    feed_all(alloc, &mut tracks, &mut settings, 1000, &leap)?;
-    let ranges = [(0, 28224000000), (155232000000, 169344000000)];
-    assert_held(&rt, &tracks, 1000, &[(0, 0), (1, 100), (3, 1100)], &ranges)?;
-    assert!(rt; settings.group_end == time(1200, 1000)?);
-
-    let mut tracks = one_track::<ListStore>(alloc, Kind::Video, 0)?;
-    let mut settings = segments();
-    settings.sequence = true;
-    let leap: [Sample; 3] = [
-        (0, 100, 0, true),
-        (100, 100, 0, false),
-        (1000, 100, 0, true),
-    ];
-    feed_all(alloc, &mut tracks, &mut settings, 1000, &leap)?;
-    assert_held(
-        &rt,
-        &tracks,
-        1000,
-        &[(0, 0), (1, 100), (2, 200)],
-        &[(0, 42336000000)],
-    )?;
-    assert!(rt; settings.offset == time(-800, 1000)? && settings.group_end == time(300, 1000)?);
-
-    let mut tracks = one_track::<ListStore>(alloc, Kind::Audio, 0)?;
-    let mut settings = segments();
-    settings.sequence = true;
-    settings.generate = true;
-    let same: [Sample; 3] = [(7, 100, 0, true), (7, 100, 0, true), (7, 100, 0, true)];
-    feed_all(alloc, &mut tracks, &mut settings, 1000, &same)?;
-    assert_held(
-        &rt,
-        &tracks,
-        1000,
-        &[(0, 0), (1, 100), (2, 200)],
-        &[(0, 42336000000)],
-    )?;
-    assert!(rt; settings.offset == time(300, 1000)?);
-    Ok(())
-}
-
-/// After a leap of the decode time the group end timestamp is the presentation timestamp with the
-/// offset, be it later or earlier than before, and also where the frame is then dropped.
-#[test]
-fn leaps_with_an_offset_in_segments(rt: HostRuntime) -> Result<(), Fail> {
-    let mut tracks = one_track::<ListStore>(rt.alloc(), Kind::Video, 0)?;
-    let mut settings = segments();
-    settings.offset = time(-500, 1000)?;
-    let dropped = Placed::Dropped(Why::NoSync);
-    let (first, later) = ((600, 100, 0, true), (1600, 100, 30, false));
-    feed_at(&rt, &mut tracks, &mut settings, 0, &first, Placed::Stored)?;
-    feed_at(&rt, &mut tracks, &mut settings, 0, &later, dropped)?;
-    assert!(rt; settings.group_end == time(1130, 1000)?);
-    let (next, earlier) = ((1700, 100, 0, true), (650, 100, 0, false));
-    feed_at(&rt, &mut tracks, &mut settings, 0, &next, Placed::Stored)?;
-    assert!(rt; settings.group_end == time(1300, 1000)?);
-    feed_at(&rt, &mut tracks, &mut settings, 0, &earlier, dropped)?;
-    assert!(rt; settings.group_end == time(150, 1000)?);
-    assert!(rt; settings.offset == time(-500, 1000)?);
-    Ok(())
-}
-
-/// In mode "sequence" the new group begins where the old one ends with its offset, and the new
-/// offset does not count the old one.
-#[test]
-fn leaps_with_an_offset_in_sequence(rt: HostRuntime) -> Result<(), Fail> {
-    let mut tracks = one_track::<ListStore>(rt.alloc(), Kind::Video, 0)?;
-    let mut settings = segments();
-    settings.sequence = true;
-    settings.offset = time(-500, 1000)?;
-    let (first, later) = ((600, 100, 0, true), (1600, 100, 30, false));
-    feed_at(&rt, &mut tracks, &mut settings, 0, &first, Placed::Stored)?;
-    assert!(rt; settings.group_end == time(200, 1000)?);
-    let dropped = Placed::Dropped(Why::NoSync);
-    feed_at(&rt, &mut tracks, &mut settings, 0, &later, dropped)?;
-    assert!(rt; settings.group_end == time(200, 1000)? && settings.group_start == None);
-    assert!(rt; settings.offset == time(-1430, 1000)?);
-    let next = (1700, 100, 0, true);
-    feed_at(&rt, &mut tracks, &mut settings, 0, &next, Placed::Stored)?;
-    assert!(rt; settings.group_end == time(370, 1000)?);
-    assert_held(
-        &rt,
-        &tracks,
-        1000,
-        &[(0, 100), (2, 270)],
-        &[(14112000000, 28224000000), (38102400000, 52214400000)],
-    )
-}
-
-/// Where a frame begins at a group start timestamp, the other track needs a random access point,
-/// and keeps its other marks.
-#[test]
-fn a_group_start_is_of_all_tracks(rt: HostRuntime) -> Result<(), Fail> {
-    let mut tracks = two_tracks::<ListStore>(rt.alloc())?;
-    let mut settings = segments();
-    settings.sequence = true;
-    let (first, second) = ((0, 100, 0, true), (100, 100, 0, false));
-    feed_at(&rt, &mut tracks, &mut settings, 0, &first, Placed::Stored)?;
-    feed_at(&rt, &mut tracks, &mut settings, 1, &first, Placed::Stored)?;
-    feed_at(&rt, &mut tracks, &mut settings, 0, &second, Placed::Stored)?;
-    settings.group_start = Some(time(150, 1000)?);
-    let (start, third) = ((200, 100, 0, true), (200, 100, 0, false));
-    feed_at(&rt, &mut tracks, &mut settings, 1, &start, Placed::Stored)?;
-    let dropped = Placed::Dropped(Why::NoSync);
-    feed_at(&rt, &mut tracks, &mut settings, 0, &third, dropped)?;
-    let fourth = (300, 100, 0, true);
-    feed_at(&rt, &mut tracks, &mut settings, 0, &fourth, Placed::Stored)?;
-    let marks = tracks.get(0).ok_or("no track")?.marks;
-    assert!(rt; marks.group_first == Some(0) && marks.received == 4);
-    assert!(rt; marks.last_decode == Some(time(250, 1000)?));
-    Ok(())
-}
-
-/// Where the decode time of one track leaps, the other needs a random access point, and its group
-/// begins anew.
-#[test]
-fn a_leap_is_of_all_tracks(rt: HostRuntime) -> Result<(), Fail> {
-    let mut tracks = two_tracks::<ListStore>(rt.alloc())?;
-    let mut settings = segments();
-    let (first, second) = ((0, 100, 0, true), (100, 100, 0, false));
-    feed_at(&rt, &mut tracks, &mut settings, 0, &first, Placed::Stored)?;
-    feed_at(&rt, &mut tracks, &mut settings, 1, &first, Placed::Stored)?;
-    feed_at(&rt, &mut tracks, &mut settings, 1, &second, Placed::Stored)?;
-    let (leap, third) = ((1000, 100, 0, true), (200, 100, 0, false));
-    feed_at(&rt, &mut tracks, &mut settings, 0, &leap, Placed::Stored)?;
-    let marks = tracks.get(1).ok_or("no track")?.marks;
-    assert!(rt; marks == marks.unset_marks());
-    let dropped = Placed::Dropped(Why::NoSync);
-    feed_at(&rt, &mut tracks, &mut settings, 1, &third, dropped)?;
-    let fourth = (300, 100, 0, true);
-    feed_at(&rt, &mut tracks, &mut settings, 1, &fourth, Placed::Stored)?;
-    let marks = tracks.get(1).ok_or("no track")?.marks;
-    assert!(rt; marks.group_first == Some(3) && marks.received == 4);
-    Ok(())
-}
-
-/// The highest end timestamp of a new track after some samples, in milliseconds.
-fn highest_end(alloc: Global, samples: &[Sample]) -> Result<Option<Ticks>, Fail> {
-    let mut tracks = one_track::<ListStore>(alloc, Kind::Video, 0)?;
-    let mut settings = segments();
-    feed_all(alloc, &mut tracks, &mut settings, 1000, samples)?;
-    let track = tracks.get(0).ok_or("no track")?;
-    Ok(track.marks.highest_end)
-}
-
-/// A frame that ends earlier than one before it, or with it, leaves the highest end timestamp.
-#[test]
-fn keeps_the_highest_end(rt: HostRuntime) -> Result<(), Fail> {
-    let samples: [Sample; 5] = [
-        (0, 100, 0, true),
-        (100, 100, 200, false),
-        (200, 100, -100, false),
-        (300, 100, 0, false),
-        (400, 1, 0, false),
-    ];
-    for (count, end) in [(1, 100), (2, 400), (3, 400), (4, 400), (5, 401)] {
-        let front = samples.as_slice().get(..count).ok_or("no samples")?;
-        let highest = highest_end(rt.alloc(), front)?;
-        assert!(rt; highest == Some(time(end, 1000)?), "after {count}");
-    }
     Ok(())
 }
 
@@ -488,7 +647,7 @@ fn places_beside_a_track_that_is_not_sound(rt: HostRuntime) -> Result<(), Fail> 
     let mut settings = segments();
     reserve_at(&mut tracks, 0)?;
     let frame = frame_of(rt.alloc(), 1000, &(0, 100, 0, true))?;
-    assert_eq!(rt; place(&mut tracks, &mut settings, 0, frame), Placed::Stored);
+    assert!(rt; place(&mut tracks, &mut settings, 0, frame) == Placed::Stored);
     let other = tracks.get(1).ok_or("no track")?.marks;
     assert!(rt; !other.need_sync && other.received == 0);
     Ok(())

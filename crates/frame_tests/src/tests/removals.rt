@@ -1,9 +1,10 @@
 //! Worked examples of coded frame removal, on a plain store. Times are in milliseconds, and a
 //! frame lasts 100.
 
-use super::frames::{Sample, add_track, assert_left, frame_of, time};
+use super::frames::{Sample, When, add_track, frame_of, has_frames, moment, time};
 use mse_base::{Kind, Moment, Ticks};
 use range_removal::remove_frames;
+use std::alloc::Global;
 use std::process::Abort;
 use std::test::Fail;
 use track_store::{FrameStore, ListStore, Marks, Track, Tracks};
@@ -20,109 +21,132 @@ fn marks_with(received: usize) -> Marks {
     }
 }
 
-/// Asserts what a removal leaves of a track: the presentation timestamps, and whether the marks are kept.
-fn assert_left_and_marks<S: FrameStore>(
-    rt: &impl Abort,
-    tracks: &Tracks<S>,
-    place: usize,
-    left: &[u16],
-    kept: bool,
-) -> Result<(), Fail> {
-    assert_left(rt, tracks, place, left)?;
+/// What a removal leaves of a track: the presentation timestamps, and whether the marks are kept.
+type Left = (&'static [u16], bool);
+
+/// A name, the frames of each track, from when on and up to when frames are removed, the duration,
+/// and what is left of each track.
+type Case = (
+    &'static str,
+    &'static [&'static [Sample]],
+    u16,
+    When,
+    When,
+    &'static [Left],
+);
+
+/// Whether a removal left what is wanted of a track.
+fn is_left<S: FrameStore>(tracks: &Tracks<S>, place: usize, left: &Left) -> Result<bool, Fail> {
+    let (frames, kept) = *left;
     let track = tracks.get(place).ok_or("no track")?;
-    let unset = track.marks.unset_marks();
-    assert_eq!(rt; track.marks == unset, !kept);
-    assert_eq!(rt; track.marks.need_sync, !kept);
-    Ok(())
+    let unset = track.marks == track.marks.unset_marks();
+    let same_marks = unset != kept && track.marks.need_sync != kept;
+    Ok(same_marks && has_frames(tracks, place, frames)?)
+}
+
+/// Whether a removal leaves what is wanted.
+fn leaves(alloc: Global, case: &Case) -> Result<bool, Fail> {
+    let (_, lists, start, end, duration, left) = *case;
+    let mut tracks = Tracks::<ListStore>::new(alloc);
+    for samples in lists {
+        add_track(
+            &mut tracks,
+            alloc,
+            Kind::Video,
+            samples,
+            marks_with(samples.len()),
+        )?;
+    }
+    remove_frames(&mut tracks, time(start)?, moment(end)?, moment(duration)?);
+    for (place, wanted) in left.iter().enumerate() {
+        if !is_left(&tracks, place, wanted)? {
+            return Ok(false);
+        }
+    }
+    Ok(tracks.len() == left.len())
 }
 
 /// One frame out of presentation order: I0 P3 B1 B2.
-const REORDERED: [Sample; 4] = [(0, true), (300, false), (100, false), (200, false)];
+const REORDERED: &[Sample] = &[(0, true), (300, false), (100, false), (200, false)];
 
-/// The marks go with the last frame, be it removed directly or as a decoding dependency.
+const CASES: [Case; 6] = [
+    // The marks go with the last frame, be it removed directly or as a decoding dependency.
+    (
+        "removes_the_last_frame",
+        &[REORDERED],
+        200,
+        When::Infinite,
+        When::Infinite,
+        &[(&[0], false)],
+    ),
+    (
+        "removes_all",
+        &[REORDERED],
+        0,
+        When::Infinite,
+        When::Infinite,
+        &[(&[], false)],
+    ),
+    (
+        "removes_none",
+        &[REORDERED],
+        301,
+        When::Infinite,
+        When::Infinite,
+        &[(&[0, 300, 100, 200], true)],
+    ),
+    // The frames of the next random access point stay, and so do the marks.
+    (
+        "removes_up_to_the_next_random_access_point",
+        &[&[
+            (0, true),
+            (180, false),
+            (100, false),
+            (200, true),
+            (300, false),
+        ]],
+        150,
+        When::At(160),
+        When::Infinite,
+        &[(&[0, 200, 300], true)],
+    ),
+    // After the last random access point a removal reaches to the duration.
+    (
+        "removes_up_to_the_duration",
+        &[REORDERED],
+        200,
+        When::At(10),
+        When::At(250),
+        &[(&[0, 300, 100], false)],
+    ),
+    // Each track has its own remove end timestamp, and its own last frame.
+    (
+        "removes_from_two_tracks",
+        &[
+            &[(0, true), (100, false)],
+            &[(0, true), (100, true), (200, true)],
+        ],
+        100,
+        When::At(150),
+        When::Infinite,
+        &[(&[0], false), (&[0, 200], true)],
+    ),
+];
+
 #[test]
-fn removes_to_the_end(rt: HostRuntime) -> Result<(), Fail> {
-    let cases: [(u16, &[u16]); 3] = [(200, &[0]), (0, &[]), (301, &[0, 300, 100, 200])];
-    for (start, left) in cases {
-        let mut tracks = Tracks::<ListStore>::new(rt.alloc());
-        add_track(
-            &mut tracks,
-            rt.alloc(),
-            Kind::Video,
-            &REORDERED,
-            marks_with(REORDERED.len()),
-        )?;
-        remove_frames(
-            &mut tracks,
-            time(start)?,
-            Moment::Infinite,
-            Moment::Infinite,
-        );
-        assert_left_and_marks(&rt, &tracks, 0, left, start == 301)?;
+fn removes(rt: HostRuntime) -> Result<(), Fail> {
+    for case in &CASES {
+        assert!(rt; leaves(rt.alloc(), case)?, "{}", case.0);
     }
     Ok(())
 }
 
-/// A removal reaches to the next random access point, whose frames stay, and so do the marks.
-#[test]
-fn removes_up_to_the_next_random_access_point(rt: HostRuntime) -> Result<(), Fail> {
-    let samples = [
-        (0, true),
-        (180, false),
-        (100, false),
-        (200, true),
-        (300, false),
-    ];
-    let mut tracks = Tracks::<ListStore>::new(rt.alloc());
-    add_track(
-        &mut tracks,
-        rt.alloc(),
-        Kind::Video,
-        &samples,
-        marks_with(samples.len()),
-    )?;
-    let end = Moment::At(time(160)?);
-    remove_frames(&mut tracks, time(150)?, end, Moment::Infinite);
-    assert_left_and_marks(&rt, &tracks, 0, &[0, 200, 300], true)
-}
-
-/// After the last random access point a removal reaches to the duration.
-#[test]
-fn removes_up_to_the_duration(rt: HostRuntime) -> Result<(), Fail> {
-    let mut tracks = Tracks::<ListStore>::new(rt.alloc());
-    add_track(
-        &mut tracks,
-        rt.alloc(),
-        Kind::Video,
-        &REORDERED,
-        marks_with(REORDERED.len()),
-    )?;
-    let (end, duration) = (Moment::At(time(10)?), Moment::At(time(250)?));
-    remove_frames(&mut tracks, time(200)?, end, duration);
-    assert_left_and_marks(&rt, &tracks, 0, &[0, 300, 100], false)
-}
-
-/// Each track has its own remove end timestamp, and its own last frame.
-#[test]
-fn removes_from_two_tracks(rt: HostRuntime) -> Result<(), Fail> {
-    let mut tracks = Tracks::<ListStore>::new(rt.alloc());
-    let short = [(0, true), (100, false)];
-    add_track(&mut tracks, rt.alloc(), Kind::Video, &short, marks_with(2))?;
-    let long = [(0, true), (100, true), (200, true)];
-    add_track(&mut tracks, rt.alloc(), Kind::Video, &long, marks_with(3))?;
-    let end = Moment::At(time(150)?);
-    remove_frames(&mut tracks, time(100)?, end, Moment::Infinite);
-    assert_left_and_marks(&rt, &tracks, 0, &[0], false)?;
-    assert_left_and_marks(&rt, &tracks, 1, &[0, 200], true)
-}
-
-/// A frame of the greatest serial that there is goes like any other.
-#[test]
-fn removes_the_greatest_serial(rt: HostRuntime) -> Result<(), Fail> {
-    let mut store = ListStore::new(rt.alloc(), Ticks::zero());
+/// A track that holds a frame of the greatest serial that there is.
+fn greatest_serial(alloc: Global) -> Result<Tracks<ListStore>, Fail> {
+    let mut store = ListStore::new(alloc, Ticks::zero());
     store.reserve(1)?;
-    store.add(frame_of(rt.alloc(), u64::MAX, 100, true)?);
-    let mut tracks = Tracks::<ListStore>::new(rt.alloc());
+    store.add(frame_of(alloc, u64::MAX, 100, true)?);
+    let mut tracks = Tracks::<ListStore>::new(alloc);
     tracks.reserve(1)?;
     tracks.add(Track {
         id: 1,
@@ -131,8 +155,16 @@ fn removes_the_greatest_serial(rt: HostRuntime) -> Result<(), Fail> {
         store,
         marks: marks_with(1),
     });
-    remove_frames(&mut tracks, time(50)?, Moment::At(time(60)?), Moment::Nan);
-    assert_left_and_marks(&rt, &tracks, 0, &[100], true)?;
+    Ok(tracks)
+}
+
+/// A frame of the greatest serial goes like any other.
+#[test]
+fn removes_the_greatest_serial(rt: HostRuntime) -> Result<(), Fail> {
+    let mut tracks = greatest_serial(rt.alloc())?;
+    remove_frames(&mut tracks, time(50)?, moment(When::At(60))?, Moment::Nan);
+    assert!(rt; is_left(&tracks, 0, &(&[100], true))?, "before the frame");
     remove_frames(&mut tracks, time(50)?, Moment::Infinite, Moment::Infinite);
-    assert_left_and_marks(&rt, &tracks, 0, &[], false)
+    assert!(rt; is_left(&tracks, 0, &(&[], false))?, "over the frame");
+    Ok(())
 }

@@ -3,7 +3,8 @@
 ghost use Rattle.std.specs.Prelude.{◌≡◌, true, length, IfOk};
 ghost use Rattle.track_store.specs.Frames.{IsTimed};
 
-use mse_base::{Bytes, CodedFrame, Kind, Moment, Span, Ticks};
+use super::rows::{all_bounds, bounds, count_at, one, ticks_at};
+use mse_base::{Bytes, CodedFrame, Kind, Moment, Ticks};
 use std::alloc::Global;
 use std::process::Abort;
 use std::test::Fail;
@@ -32,33 +33,119 @@ fn first_frame(alloc: Global) -> Result<Stored, Fail>
     })
 }
 
+/// What a store is asked.
+#[derive(Clone, Copy)]
+enum Look {
+    Length,
+    /// The serial of the frame at a place.
+    Serial,
+    /// The frame that is overlapped at a time.
+    Overlapped,
+    /// The random access point at or after a time, or the first of all.
+    SyncAtOrAfter,
+    SyncAtOrAfterInfinity,
+    HighestStart,
+    HighestEnd,
+    Used,
+    Ranges,
+    SpanHolding,
+    LastSpan,
+}
+
+/// A question, the number that it takes, and the numbers that are to be told.
+type Row = (Look, &'static [i128], &'static [i128]);
+
+/// A time; none where there is none.
+fn tick(alloc: Global, t: Option<Ticks>) -> Result<Vec<i128>, Fail> {
+    match t {
+        Some(t) => one(alloc, t.get()),
+        None => Ok(Vec::new(alloc)),
+    }
+}
+
+/// A place; none where there is none.
+fn place(alloc: Global, place: Option<usize>) -> Result<Vec<i128>, Fail> {
+    match place {
+        Some(place) => one(alloc, place as i128),
+        None => Ok(Vec::new(alloc)),
+    }
+}
+
+/// A time; NaN where there is none.
+fn moment_of(numbers: &[i128]) -> Result<Moment, Fail> {
+    match numbers.first() {
+        Some(_) => Ok(Moment::At(ticks_at(numbers, 0)?)),
+        None => Ok(Moment::Nan),
+    }
+}
+
+/// What a store tells.
+fn told<S: FrameStore>(
+    alloc: Global,
+    store: &S,
+    look: Look,
+    numbers: &[i128],
+) -> Result<Vec<i128>, Fail> {
+    match look {
+        Look::Length => one(alloc, store.len() as i128),
+        Look::Serial => match store.get(count_at(numbers, 0)?) {
+            Some(stored) => one(alloc, i128::from(stored.serial)),
+            None => Ok(Vec::new(alloc)),
+        },
+        Look::Overlapped => place(alloc, store.overlapped(ticks_at(numbers, 0)?)),
+        Look::SyncAtOrAfter => tick(alloc, store.sync_at_or_after(moment_of(numbers)?)),
+        Look::SyncAtOrAfterInfinity => tick(alloc, store.sync_at_or_after(Moment::Infinite)),
+        Look::HighestStart => tick(alloc, store.highest_start()),
+        Look::HighestEnd => tick(alloc, store.highest_end()),
+        Look::Used => one(alloc, i128::from(store.used())),
+        Look::Ranges => all_bounds(alloc, &store.copy_ranges()?),
+        Look::SpanHolding => bounds(alloc, store.span_holding(ticks_at(numbers, 0)?)),
+        Look::LastSpan => bounds(alloc, store.last_span()),
+    }
+}
+
+/// Asks a store, and compares what it tells.
+fn expect<S: FrameStore>(
+    rt: &(impl Abort + AllocGlobal),
+    store: &S,
+    rows: &[Row],
+) -> Result<(), Fail> {
+    for (i, (look, numbers, wanted)) in rows.iter().enumerate() {
+        let told = told(rt.alloc(), store, *look, numbers)?;
+        assert_eq!(rt; told.as_slice(), *wanted, "row {i}");
+    }
+    Ok(())
+}
+
+/// What a store tells that holds a random access point from 0 to 10, of four bytes.
+const WITH_A_FRAME: [Row; 14] = [
+    (Look::Length, &[], &[1]),
+    (Look::Serial, &[0], &[0]),
+    (Look::Serial, &[1], &[]),
+    (Look::Overlapped, &[0], &[0]),
+    (Look::Overlapped, &[10], &[]),
+    (Look::SyncAtOrAfter, &[], &[0]),
+    (Look::SyncAtOrAfter, &[0], &[0]),
+    (Look::SyncAtOrAfterInfinity, &[], &[]),
+    (Look::HighestStart, &[], &[0]),
+    (Look::HighestEnd, &[], &[10]),
+    (Look::Used, &[], &[4]),
+    (Look::Ranges, &[], &[0, 10]),
+    (Look::SpanHolding, &[10], &[0, 10]),
+    (Look::LastSpan, &[], &[0, 10]),
+];
+
+const WITH_NONE: [Row; 2] = [(Look::Length, &[], &[0]), (Look::LastSpan, &[], &[])];
+
 fn keeps_a_frame<S: FrameStore>(rt: &(impl Abort + AllocGlobal)) -> Result<(), Fail> {
-    let end = Ticks::new(10).ok_or("no time")?;
-    let whole = Some(Span {
-        start: Ticks::zero(),
-        end,
-    });
     let mut store = S::new(rt.alloc(), Ticks::zero());
     store.reserve(1)?;
     store.add(first_frame(rt.alloc())?);
-    assert_eq!(rt; store.len(), 1);
-    assert!(rt; store.get(0).is_some() && store.get(1).is_none());
-    assert_eq!(rt; store.overlapped(Ticks::zero()), Some(0));
-    assert_eq!(rt; store.overlapped(end), None);
-    assert_eq!(rt; store.sync_at_or_after(Moment::Nan), Some(Ticks::zero()));
-    assert_eq!(rt; store.sync_at_or_after(Moment::Infinite), None);
-    assert_eq!(rt; store.highest_start(), Some(Ticks::zero()));
-    assert_eq!(rt; store.highest_end(), Some(end));
-    assert_eq!(rt; store.used(), 4);
-    assert_eq!(rt; store.copy_ranges()?.get(0), whole);
-    assert_eq!(rt; store.span_holding(end), whole);
-    assert_eq!(rt; store.last_span(), whole);
+    expect(rt, &store, &WITH_A_FRAME)?;
     store.remove_where_time(Ticks::zero(), Moment::Infinite, 0);
-    assert_eq!(rt; store.len(), 1);
+    expect(rt, &store, &WITH_A_FRAME)?;
     store.remove_where_time(Ticks::zero(), Moment::Infinite, 1);
-    assert_eq!(rt; store.len(), 0);
-    assert_eq!(rt; store.last_span(), None);
-    Ok(())
+    expect(rt, &store, &WITH_NONE)
 }
 
 #[test]
@@ -71,11 +158,11 @@ fn answers_calls<S: FrameStore>(rt: &(impl Abort + AllocGlobal)) -> Result<(), F
     change(&mut store, StoreChange::Reserve(1))?;
     store.add(first_frame(rt.alloc())?);
     match look_up(&store, &StoreLook::Get(0)) {
-        StoreAnswer::Frame(Some(stored)) => assert_eq!(rt; stored.serial, 0),
+        StoreAnswer::Frame(Some(stored)) => assert!(rt; stored.serial == 0),
         _ => return Err("no frame".into()),
     }
     match look_up(&store, &StoreLook::CopyRanges) {
-        StoreAnswer::Ranges(Ok(ranges)) => assert_eq!(rt; ranges.len(), 1),
+        StoreAnswer::Ranges(Ok(ranges)) => assert!(rt; ranges.len() == 1),
         _ => return Err("no ranges".into()),
     }
     change(
@@ -83,7 +170,7 @@ fn answers_calls<S: FrameStore>(rt: &(impl Abort + AllocGlobal)) -> Result<(), F
         StoreChange::RemoveWhereTime(Ticks::zero(), Moment::Infinite, 1),
     )?;
     match look_up(&store, &StoreLook::Len) {
-        StoreAnswer::Frames(n) => assert_eq!(rt; n, 0),
+        StoreAnswer::Frames(count) => assert!(rt; count == 0),
         _ => return Err("no count".into()),
     }
     Ok(())
@@ -105,13 +192,12 @@ fn keeps_tracks(rt: HostRuntime) -> Result<(), Fail> {
         store: ListStore::new(rt.alloc(), Ticks::zero()),
         marks: Marks::new(),
     });
-    assert_eq!(rt; tracks.len(), 1);
-    assert_eq!(rt; tracks.used(), 0);
+    assert!(rt; tracks.len() == 1 && tracks.used() == 0);
     if let Some(track) = tracks.get_mut(0) {
         track.marks.received = 3;
     }
     let track = tracks.get(0).ok_or("no track")?;
-    assert_eq!(rt; track.marks.unset_marks(), track.marks);
+    assert!(rt; track.marks.unset_marks() == track.marks);
     assert!(rt; track.id == 7 && track.marks.received == 3 && tracks.get(1).is_none());
     Ok(())
 }
