@@ -14,3 +14,4 @@ mod track;
 
 pub use fault::{InitError, InitFault};
 pub use movie::{read_init, read_movie};
+pub use track::{read_codec, read_media};

@@ -54,9 +54,11 @@ fn read_count(table: &[u8]) -> Result<u32, InitFault>
     entry_count(table).ok_or(InitFault::Size)
 }
 
-/// The type of the first sample entry (8.5.2).
+/// The type of the first sample entry in the payload of a sample description box (ISO/IEC 14496-12, 8.5.2).
+///
+/// `Size` where the payload has no count of entries, `Missing` where it has no whole entry.
 #[tactic(auto, unfolding(crate::specs::Tracks::codec_of))]
-fn read_codec(stsd: &[u8]) -> Result<[u8; 4], InitFault>
+pub fn read_codec(stsd: &[u8]) -> Result<[u8; 4], InitFault>
     ensures { result ≡ codec_of stsd.now }
 {
     let missing = InitFault::Missing(*b"stsd");
@@ -195,8 +197,10 @@ fn read_number(before: &[TrackInfo], track: &Row<'_>) -> Result<u32, InitFault>
     Ok(id)
 }
 
-/// The boxes of the media box (8.4.1) of a track.
-fn read_media<'a>(track: &Row<'a>) -> Result<Row<'a>, InitFault>
+/// The boxes of the media box (ISO/IEC 14496-12, 8.4.1) of a track.
+///
+/// `Missing` where the track has no such box, `Size` where that is no row of boxes.
+pub fn read_media<'a>(track: &Row<'a>) -> Result<Row<'a>, InitFault>
     ensures { result ≡ mdia_row_of track.now }
 {
     let mdia = track.first(*b"mdia").ok_or(InitFault::Missing(*b"mdia"))?;

@@ -42,21 +42,13 @@ pub(crate) fn sample_count(sizes: &SampleSizes) -> usize
 fn duration_total(runs: &[DurationRun]) -> u128
     ensures { result ≡ sum_by (λ r. r.count) runs.now }
 {
-    let mut total = 0;
-    for run in runs {
-        total += u128::from(run.count);
-    }
-    total
+    runs.iter().map(|run| u128::from(run.count)).sum()
 }
 
 fn offset_total(runs: &[OffsetRun]) -> u128
     ensures { result ≡ sum_by (λ r. r.count) runs.now }
 {
-    let mut total = 0;
-    for run in runs {
-        total += u128::from(run.count);
-    }
-    total
+    runs.iter().map(|run| u128::from(run.count)).sum()
 }
 
 /// Whether a table of composition offsets, if there is one, is of `n` samples.

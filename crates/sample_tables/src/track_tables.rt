@@ -4,27 +4,18 @@ ghost use Rattle.std.specs.Result.{result_map_both};
 ghost use lib.Chars.{codes};
 ghost use Rattle.bmff_boxes.specs.Children.{Box, child_of};
 ghost use Rattle.bmff_boxes.specs.Reading.{Gives};
-ghost use Rattle.bmff_init.specs.Tracks.{codec_of, mdia_row_of};
 ghost use Rattle.sample_tables.specs.Facts.{IsDescription};
 ghost use Rattle.sample_tables.specs.Movies.{sample_table_in, description_in, description_payload, description_codec, track_tables};
 
 use crate::box_place::first_place;
 use crate::reading::read_tables;
 use crate::tables::SampleTables;
-use bmff_boxes::{Child, Header, Row, children, entry_count, header, open};
-use bmff_init::{InitError, InitFault};
+use bmff_boxes::{Child, Row, children, open};
+use bmff_init::{InitError, InitFault, read_codec, read_media};
 use mse_base::Bytes;
 use std::alloc::Global;
 
-/// The boxes of the media box (ISO/IEC 14496-12, 8.4.1) of a track.
-fn mdia_row_of<'a>(track: &Row<'a>) -> Result<Row<'a>, InitFault>
-    ensures { result ≡ mdia_row_of track.now }
-{
-    let mdia = track.first(*b"mdia").ok_or(InitFault::Missing(*b"mdia"))?;
-    open(mdia).ok_or(InitFault::Size)
-}
-
-/// The payload of the sample table box (8.5.1) in a media box.
+/// The payload of the sample table box (ISO/IEC 14496-12, 8.5.1) in a media box.
 fn sample_table_in<'a>(media: &Row<'a>) -> Result<&'a [u8], InitFault>
     ensures { result_map_both (λ s. s.now) (λ fault. fault) result ≡ sample_table_in media.now }
 {
@@ -43,23 +34,6 @@ fn description_in<'a>(stbl: &'a [u8]) -> Result<&'a [u8], InitFault>
         Ok(Some(place)) => Ok(&stbl[place.start..place.end]),
         Ok(None) => Err(InitFault::Missing(*b"stsd")),
         Err(_) => Err(InitFault::Missing(*b"stsd")),
-    }
-}
-
-/// The type of the first sample entry of a sample description box (8.5.2).
-#[tactic(auto, unfolding(bmff_init::specs::Tracks::codec_of, bmff_boxes::specs::Fields::field))]
-fn codec_of(stsd: &[u8]) -> Result<[u8; 4], InitFault>
-    ensures { result ≡ codec_of stsd.now }
-{
-    let missing = InitFault::Missing(*b"stsd");
-    let count = entry_count(stsd).ok_or(InitFault::Size)?;
-    if count == 0 {
-        return Err(missing);
-    }
-    match header(stsd.get(8..).unwrap_or(&[])) {
-        Header::Whole { kind, .. } => Ok(kind),
-        Header::Short => Err(missing),
-        Header::Bad(_) => Err(missing),
     }
 }
 
@@ -89,7 +63,7 @@ fn description_codec(stsd: &[u8]) -> Result<[u8; 4], InitFault>
     ensures described { IfOk result (λ codec. IsDescription codec stsd.now) }
 {
     let payload = description_payload(stsd).ok_or(InitFault::Size)?;
-    codec_of(payload)
+    read_codec(payload)
 }
 
 /// What is read of the sample table box of a track.
@@ -111,7 +85,7 @@ pub(crate) fn read_track_tables(alloc: Global, trak: &[u8]) -> Result<TrackTable
     ensures described { IfOk result (λ read. IsDescription read.codec read.stsd) }
 {
     let track = open(trak).ok_or(InitFault::Size)?;
-    let media = mdia_row_of(&track)?;
+    let media = read_media(&track)?;
     let stbl = sample_table_in(&media)?;
     let boxes = open(stbl).ok_or(InitFault::Size)?;
     let tables = read_tables(alloc, &boxes)?;
