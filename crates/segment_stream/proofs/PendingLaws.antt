@@ -1,5 +1,5 @@
 -- The next item.
-use Rattle.std.proofs.Common.{◌≡◌, ℕ, zero, suc, ◌+◌, ◌-◌, ◌<◌, ◌≤◌, ◌^◌, Bool, true, false, List, [], ◌∷◌, length, take, get_or, slice_get, Option, Some, None, is_some, Ok, refl, ap, sym, ◌∙◌, subst, arith}
+use Rattle.std.proofs.Common.{◌≡◌, ℕ, zero, suc, ◌+◌, ◌-◌, ◌<◌, ◌≤◌, ◌^◌, Bool, true, false, List, [], ◌∷◌, length, take, get_or, slice_get, Option, Some, None, is_some, Result, Ok, IfOk, refl, ap, sym, ◌∙◌, subst, arith}
 use Rattle.std.specs.Prelude.{All}
 use Rattle.std.proofs.lemmas.Option.{slice_get_within}
 use Rattle.mse_base.specs.declared.track.Presentation.{Presentation}
@@ -16,9 +16,10 @@ use Rattle.segment_walk.specs.Tables.{SegmentItem}
 use Rattle.segment_walk.specs.Moves.{WalkState, WalkMode, Skipping, move_of_step, move_over_byte, move_of_slots, open_of, segments, frame_of, step_of}
 use Rattle.segment_walk.specs.Ranges.{mode_of}
 use Rattle.segment_walk.proofs.WalkLaws.{going, is_walk}
+use Rattle.segment_stream.specs.declared.progress.PendingItem.{PendingItem}
 use Rattle.segment_stream.specs.declared.progress.Tables.{Tables}
 use Rattle.segment_stream.specs.Kept
-use Rattle.segment_stream.specs.Kept.{frames, IsEndingBy, IsSlotEndingBy, IsCountedIn, IsOrdered, IsStillBelow, is_skipping}
+use Rattle.segment_stream.specs.Kept.{frames, IsEndingBy, IsSlotEndingBy, IsCountedIn, IsOrdered, IsStillBelow, is_skipping, move_of_pending}
 use Rattle.segment_stream.proofs.Acts
 use Rattle.segment_stream.proofs.Acts.{acts, is_active}
 use Rattle.segment_stream.proofs.Snapshots.{walk_state}
@@ -132,6 +133,13 @@ end-near (codes.Within f) tables first ready h = h.small
 -- a step that would go on is not the next one
 pub stuck : (last : Option Presentation) (m : ParserMode) (offset want : ℕ) (rest : List ℕ) (failed : Bool) (tables : Tables) (st : BoxStep) → failed ≡ false → is_skipping m ≡ false → IsStillBelow (walk_state last (record { mode = m; offset = offset; failed = failed }) tables rest) want → st ≡ step_of (is_some last) rest (mode_of tables.slots.items tables.known.items m) → IsTakenAhead (move_of_step (going last (mode_of tables.slots.items tables.known.items m) offset rest) st) → ⊥
 stuck last m offset want rest failed tables st g k r e p = no-pass last (mode_of tables.slots.items tables.known.items m) offset rest failed want st g r (is_active tables m (active-by m k)) e p
+
+-- the next step says what the move is
+pub step-item : {E : Type 0} (o : Result PendingItem E) (last : Option Presentation) (m : ParserMode) (offset : ℕ) (rest : List ℕ) (failed : Bool) (tables : Tables) (st : BoxStep) → failed ≡ false → is_skipping m ≡ false → st ≡ step_of (is_some last) rest (mode_of tables.slots.items tables.known.items m) → let s : WalkState = walk_state last (record { mode = m; offset = offset; failed = failed }) tables rest in IfOk o (λ item. move_of_step s st ≡ move_of_pending s item) → IfOk o (λ item. segments.move s ≡ move_of_pending s item)
+step-item o last m offset rest true tables st g k e h = absurd (both true g refl)
+step-item o last m offset rest false tables st g k e h =
+    let s : WalkState = going last (mode_of tables.slots.items tables.known.items m) offset rest in
+    subst (λ v. IfOk o (λ item. v ≡ move_of_pending s item)) (sym (acts last (mode_of tables.slots.items tables.known.items m) offset rest st (is_active tables m (active-by m k)) e)) h
 
 -- a moof that was read would have been passed
 pub plan-stuck : (last : Option Presentation) (p : Presentation) (m : ParserMode) (offset want : ℕ) (bytes : List ℕ) (failed : Bool) (tables : Tables) (len : ℕ) (found : List Slot) → last ≡ Some p → failed ≡ false → Kept.IsActive m → IsStillBelow (walk_state last (record { mode = m; offset = offset; failed = failed }) tables bytes) want → step.ReadMoof len ≡ step_of (is_some last) bytes (mode_of tables.slots.items tables.known.items m) → plan_of p.tracks (take len bytes) ≡ Ok found → ⊥

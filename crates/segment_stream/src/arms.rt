@@ -1,11 +1,10 @@
 ghost use Rattle.std.specs.Prelude.{◌≡◌, ◌-◌, Option, Some, ◌+◌, ◌≤◌, ◌<◌, ◌^◌, length, false, true, IfOk, OnOk, OnErr};
 ghost use Rattle.std.specs.List.{concat};
-ghost use Rattle.mse_base.specs.Presentation.{IsPresentation};
 ghost use Rattle.mse_base.specs.declared.track.Presentation.{Presentation};
 ghost use Rattle.parser_loop.specs.Walk.{lookahead_from, first_item, after_first};
 ghost use Rattle.input_chunks.specs.Pieces.{pieces_without_first, HasNoEmptyPiece};
 ghost use Rattle.segment_walk.specs.Moves.{segments};
-ghost use Rattle.parser_loop.specs.Items.{FaultItem, InitItem, SegmentEnd};
+ghost use Rattle.parser_loop.specs.Items.{FaultItem};
 ghost use Rattle.segment_stream.specs.Kept.{IsStillBelowWant, IsConsistent, IsStillAtFront, IsEmptied, IsLast, kept_of, last_bytes, snapshot, state_behind, end_of_input};
 ghost use Rattle.parser_loop.specs.Items.{latest_after_any, answer_item};
 
@@ -112,60 +111,21 @@ fn enter(
     *tables = next_state.tables;
 }
 
-/// Behind an initialization segment. An `Err` changes nothing.
-fn init_on(
-    alloc: Global,
-    last: &mut Option<Presentation>,
-    progress: &mut Progress,
-    tables: &mut Tables,
-    input: &mut Chunks,
-    presentation: Presentation,
-    len: u64,
-) -> Result<SegmentNext, OutOfMemory>
-    requires inside { len ≤ length (concat input.old) }
-    requires readable { IsPresentation presentation }
-    requires small { progress.old.position.offset + length (concat input.old) < 2 ^ 62 }
-    ensures item { IfOk result (λ x.
-        answer_item x ≡ Some (InitItem presentation progress.old.position.offset)) }
-    ensures last { OnOk result (last.new ≡ Some presentation) }
-    ensures kept { OnOk result
-        (kept_of (snapshot (Some presentation) progress.new tables.new input.new)
-        ≡ lookahead_from segments (state_behind (Some presentation) progress.old.position.offset len
-        (concat input.old))) }
-    ensures at_front { OnOk result
-        (IsStillAtFront (snapshot (Some presentation) progress.new tables.new input.new)) }
-    ensures unfailed { OnOk result (progress.new.position.failed ≡ false) }
-    ensures total { OnOk result (progress.new.position.offset + length (concat input.new)
-        ≡ progress.old.position.offset + length (concat input.old)) }
-    ensures pieces { OnOk result (input.new ≡ last_bytes (length (concat input.new)) input.old) }
-    ensures err_last { OnErr result (last.new ≡ last.old) }
-    ensures err_progress { OnErr result (progress.new ≡ progress.old) }
-    ensures err_tables { OnErr result (tables.new ≡ tables.old) }
-    ensures err_input { OnErr result (input.new ≡ input.old) }
-{
-    let offset = progress.position.offset;
-    let latest = Some(presentation.copy()?);
-    let next_state = leave_on(alloc, &latest, offset, len, input)?;
-    enter(next_state, progress, tables, input);
-    *last = latest;
-    Ok(SegmentNext::Init(presentation, offset))
-}
-
-/// Behind the end of a media segment. An `Err` changes nothing.
-fn end_on(
+/// Goes behind an item of `len` bytes that ends a segment or is an initialization segment. An `Err` changes
+/// nothing.
+fn pass_item(
     alloc: Global,
     last: &Option<Presentation>,
     progress: &mut Progress,
     tables: &mut Tables,
     input: &mut Chunks,
-    end: u64,
-) -> Result<SegmentNext, OutOfMemory>
-    requires inside { end ≤ length (concat input.old) }
+    len: u64,
+) -> Result<(), OutOfMemory>
+    requires inside { len ≤ length (concat input.old) }
     requires readable { IsLast last.now }
     requires small { progress.old.position.offset + length (concat input.old) < 2 ^ 62 }
-    ensures item { IfOk result (λ x. answer_item x ≡ Some SegmentEnd) }
     ensures kept { OnOk result (kept_of (snapshot last.now progress.new tables.new input.new)
-        ≡ lookahead_from segments (state_behind last.now progress.old.position.offset end
+        ≡ lookahead_from segments (state_behind last.now progress.old.position.offset len
         (concat input.old))) }
     ensures at_front { OnOk result
         (IsStillAtFront (snapshot last.now progress.new tables.new input.new)) }
@@ -177,9 +137,9 @@ fn end_on(
     ensures err_tables { OnErr result (tables.new ≡ tables.old) }
     ensures err_input { OnErr result (input.new ≡ input.old) }
 {
-    let next_state = leave_on(alloc, last, progress.position.offset, end, input)?;
+    let next_state = leave_on(alloc, last, progress.position.offset, len, input)?;
     enter(next_state, progress, tables, input);
-    Ok(SegmentNext::SegmentEnd)
+    Ok(())
 }
 
 /// A fault was taken: no byte is kept.
@@ -242,16 +202,17 @@ pub(crate) fn next_on(
     }
     match pending_item(alloc, last, progress, tables, input)? {
         PendingItem::Dry => Ok(SegmentNext::Dry),
-        PendingItem::Init(presentation, len) => init_on(
-            alloc,
-            last,
-            progress,
-            tables,
-            input,
-            presentation,
-            len,
-        ),
-        PendingItem::End(end) => end_on(alloc, last, progress, tables, input, end),
+        PendingItem::Init(presentation, len) => {
+            let offset = progress.position.offset;
+            let latest = Some(presentation.copy()?);
+            pass_item(alloc, &latest, progress, tables, input, len)?;
+            *last = latest;
+            Ok(SegmentNext::Init(presentation, offset))
+        }
+        PendingItem::End(end) => {
+            pass_item(alloc, last, progress, tables, input, end)?;
+            Ok(SegmentNext::SegmentEnd)
+        }
         PendingItem::Fault(fault, at) => Ok(fail_on(progress, input, fault, at)),
     }
 }

@@ -1,10 +1,12 @@
-ghost use Rattle.std.specs.Prelude.{◌≡◌, ℕ, ◌-◌, slice_range, slice_get, Option, Some, ◌+◌, ◌≤◌, ◌<◌, ◌^◌, length, IfOk, false};
+ghost use Rattle.std.specs.Prelude.{◌≡◌, ◌≢◌, ℕ, slice_range, slice_get, take, List, Option, Some, Ok, ◌+◌, ◌≤◌, ◌<◌, ◌^◌, length, IfOk};
 ghost use Rattle.std.specs.List.{concat};
 ghost use Rattle.mse_base.specs.declared.track.Presentation.{Presentation};
 ghost use Rattle.parser_loop.specs.Walk.{item_of};
-ghost use Rattle.segment_walk.specs.Moves.{WalkState};
-ghost use Rattle.segment_walk.specs.declared.kinds.BoxStep.TheVariants.{ReadInit, ReadMoof};
-ghost use Rattle.segment_stream.specs.Kept.{IsConsistent, IsStillAtFront, IsPendingItem, HasPendingBytes, IsLast, IsActive, move_of_pending, kept_of, next_step_of, is_skipping, snapshot};
+ghost use Rattle.bmff_fragment.specs.declared.slot.Slot.{Slot};
+ghost use Rattle.bmff_fragment.specs.Plans.{plan_of};
+ghost use Rattle.bmff_init.specs.Movies.{init_of};
+ghost use Rattle.segment_walk.specs.Moves.{WalkState, move_of_init, move_of_moof};
+ghost use Rattle.segment_stream.specs.Kept.{IsConsistent, IsStillAtFront, IsPendingItem, HasPendingBytes, IsLast, move_of_pending, kept_of, is_skipping, snapshot};
 ghost use Rattle.parser_loop.specs.Items.{latest_after_any, answer_item};
 
 use crate::moves::next_step;
@@ -63,22 +65,11 @@ pub(crate) fn look_frame(
     Ok(SegmentNext::Frame(frame, offset))
 }
 
-/// The initialization segment whose moov is whole.
-fn pending_init(
-    alloc: Global,
-    last: &Option<Presentation>,
-    progress: &Progress,
-    tables: &Tables,
-    input: &Chunks,
-    len: u64,
-) -> Result<PendingItem, OutOfMemory>
-    requires at_front { IsStillAtFront (snapshot last.now progress.now tables.now input.now) }
-    requires unfailed { progress.now.position.failed ≡ false }
-    requires active { IsActive progress.now.position.mode }
-    requires step { ReadInit len
-        ≡ next_step_of (snapshot last.now progress.now tables.now input.now) }
-    ensures value { IfOk result
-        (IsPendingItem (snapshot last.now progress.now tables.now input.now)) }
+/// The item of a moov of `len` bytes that is whole: its initialization segment, or its fault.
+fn pending_init(alloc: Global, input: &Chunks, len: u64) -> Result<PendingItem, OutOfMemory>
+    requires { len ≤ length (concat input.now) }
+    ensures value { (s : WalkState) → IfOk result (λ item.
+        move_of_init s len (init_of (take len (concat input.now))) ≡ move_of_pending s item) }
     ensures inside { IfOk result (HasPendingBytes (length (concat input.now))) }
 {
     let moov = input.copy(0, len as usize)?;
@@ -89,23 +80,19 @@ fn pending_init(
     }
 }
 
-/// The fault of the moof that is whole and was not passed.
+/// The fault of a moof of `len` bytes that is whole and was not passed.
 fn pending_moof(
     alloc: Global,
     last: &Option<Presentation>,
-    progress: &Progress,
-    tables: &Tables,
     input: &Chunks,
     len: u64,
 ) -> Result<PendingItem, OutOfMemory>
-    requires at_front { IsStillAtFront (snapshot last.now progress.now tables.now input.now) }
+    requires whole { len ≤ length (concat input.now) }
     requires readable { IsLast last.now }
-    requires unfailed { progress.now.position.failed ≡ false }
-    requires active { IsActive progress.now.position.mode }
-    requires step { ReadMoof len
-        ≡ next_step_of (snapshot last.now progress.now tables.now input.now) }
-    ensures value { IfOk result
-        (IsPendingItem (snapshot last.now progress.now tables.now input.now)) }
+    requires not_passed { (p : Presentation) (slots : List Slot) → last.now ≡ Some p
+        → plan_of p.tracks (take len (concat input.now)) ≢ Ok slots }
+    ensures value { (s : WalkState) → s.rest ≡ concat input.now → IfOk result
+        (λ item. move_of_moof s len last.now ≡ move_of_pending s item) }
     ensures inside { IfOk result (HasPendingBytes (length (concat input.now))) }
 {
     let Some(with) = last else {
@@ -150,8 +137,8 @@ pub(crate) fn pending_item(
         return Ok(PendingItem::Dry);
     }
     match next_step(last, *progress, tables, input) {
-        BoxStep::ReadInit(len) => pending_init(alloc, last, progress, tables, input, len),
-        BoxStep::ReadMoof(len) => pending_moof(alloc, last, progress, tables, input, len),
+        BoxStep::ReadInit(len) => pending_init(alloc, input, len),
+        BoxStep::ReadMoof(len) => pending_moof(alloc, last, input, len),
         BoxStep::EndSegment(end) => Ok(PendingItem::End(end)),
         BoxStep::Fail(fault, at) => Ok(PendingItem::Fault(fault, at)),
         BoxStep::Wait(_) => Ok(PendingItem::Dry),

@@ -341,8 +341,8 @@ impl Stream {
         ensures fed { self.new.fed ≡ 0 }
         ensures none_offered { self.new.offered ≡ None }
     {
-        restart(&mut self.progress, &mut self.input);
         self.last = None;
+        restart(&mut self.progress, &mut self.input);
         self.fed = 0;
     }
 }

@@ -1,12 +1,12 @@
-use Rattle.std.proofs.Common.{Some, length, length-drop, ap, ◌∙◌, arith}
+use Rattle.std.proofs.Common.{length, length-drop, ap, ◌∙◌, arith}
 use Rattle.std.specs.List.{concat}
 use Rattle.input_chunks.proofs.Rows.{bytes-without}
 use Rattle.segment_stream.specs.declared.progress.ParserPosition.{ParserPosition}
 use Rattle.segment_stream.proofs.ArmLaws.{dropped}
-use Rattle.segment_stream.proofs.arms.init_on.Goals as goal
+use Rattle.segment_stream.proofs.arms.pass_item.Goals as goal
 
 pub returns-clause-kept : goal.returns-clause-kept
-returns-clause-kept c = rw (← c.in_ok-copy.ensures) (c.enter.ensures.kept (Some c.in_ok-copy.field-0) ∙ c.in_ok-next_state.ensures.kept)
+returns-clause-kept c = c.enter.ensures.kept c.args.last.now ∙ c.in_ok-next_state.ensures.kept
 
 pub returns-clause-total : goal.returns-clause-total
 returns-clause-total c =
