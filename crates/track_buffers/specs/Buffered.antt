@@ -4,11 +4,13 @@ use Rattle.std.specs.Int.{int_max}
 use Rattle.std.specs.List.{list_all}
 use Rattle.mse_base.specs.declared.span.Span.{Span}
 use Rattle.mse_base.specs.Meets.{meet_of_all}
-use Rattle.mse_base.specs.Spans.{has_tick_in, last_of, IsNormalized}
+use Rattle.mse_base.specs.Spans.{has_end_after, has_tick_in, last_of, reaches, IsNormalized}
 use Rattle.track_store.specs.declared.store.Stored.{Stored}
 use Rattle.track_store.specs.declared.tracks.Track.{Track}
 use Rattle.mse_base.specs.Moments.{greatest}
 use Rattle.track_store.specs.Frames.{ranges_of}
+use Rattle.track_buffers.specs.declared.sought.Sought.{Sought}
+use Rattle.track_buffers.specs.declared.sought.Sought.TheVariants.{Holding, EndAfter}
 use Rattle.track_buffers.specs.Media.{Media}
 
 -- where the last range ends, if there is one
@@ -29,6 +31,11 @@ with_last_end e (s ∷ r ∷ rs) = s ∷ with_last_end e (r ∷ rs)
 abbrev pub with_end : Option ℤ → List Span → List Span
 with_end None rs = rs
 with_end (Some e) rs = with_last_end e rs
+
+-- whether a range is one that is looked for: it holds the time, or it ends after the time
+abbrev pub is_sought : Sought → Span → Bool
+is_sought (Holding t) = reaches t
+is_sought (EndAfter t) = has_end_after t
 
 -- the ticks by which the last range grows: from its start on and before the end, where there is a range
 abbrev pub last_up_to : ℤ → List Span → List Span

@@ -5,15 +5,15 @@ ghost use Rattle.std.specs.Prelude.{◌≡◌, ◌≤ℤ◌, pos, false, find, m
 ghost use Rattle.std.specs.List.{AllByRecursion, filter};
 ghost use Rattle.mse_base.specs.Meets.{meet_of_all, narrowed_of_two, narrowed_of_all};
 ghost use Rattle.mse_base.specs.Spans.{has_end_after, first_of, last_of, has_start_before};
-ghost use Rattle.track_store.specs.Frames.{ranges_of};
 ghost use Rattle.track_store.specs.Kept.{AreSoundAndCountable, gaps_of};
 ghost use Rattle.track_store.specs.State.{states_of};
-ghost use Rattle.track_buffers.specs.Buffered.{with_common_end, with_end, with_last_end, ranges_in};
+ghost use Rattle.track_buffers.specs.Buffered.{with_common_end, with_end, ranges_in};
 
-use crate::buffered::{common_end, highest_range_end, span_up_to};
+use crate::buffered::{common_end, highest_range_end};
 use crate::holding::ended_last_span;
+use crate::sought::{Sought, span_at};
 use mse_base::{Span, Ticks};
-use track_store::{FrameStore, Track, Tracks};
+use track_store::{FrameStore, Tracks};
 
 /// From the later start of two spans to the earlier end, which may be before it. Neither span is
 /// missing.
@@ -29,55 +29,6 @@ fn narrowed_of_two(x: Option<Span>, y: Option<Span>) -> Option<Span>
     }
 }
 
-/// The first range of a track that ends after a time, where the last one lasts to an end.
-fn extended_span_after<S: FrameStore>(track: &Track<S>, t: Ticks, end: Ticks) -> Option<Span>
-    requires { pos 0 ≤ℤ S.gap track.now.store }
-    ensures { result ≡ find (has_end_after t)
-        (with_last_end end (ranges_of (S.gap track.now.store) (S.frames track.now.store))) }
-{
-    match track.store.last_span() {
-        Some(last) => {
-            let span = track.store.first_span_after(t).unwrap_or(last);
-            if span.start < last.start {
-                return Some(span);
-            }
-            let span = span_up_to(last, end);
-            if t < span.end { Some(span) } else { None }
-        }
-        None => None,
-    }
-}
-
-/// The first range of a track that ends after a time, where the last one lasts to an end if there
-/// is one.
-fn track_span_after<S: FrameStore>(track: &Track<S>, t: Ticks, end: &Option<Ticks>) -> Option<Span>
-    requires { pos 0 ≤ℤ S.gap track.now.store }
-    ensures { result ≡ find (has_end_after t)
-        (with_end end.now (ranges_of (S.gap track.now.store) (S.frames track.now.store))) }
-{
-    match end {
-        Some(end) => extended_span_after(track, t, *end),
-        None => track.store.first_span_after(t),
-    }
-}
-
-fn span_after_at<S: FrameStore>(
-    tracks: &Tracks<S>,
-    i: usize,
-    t: Ticks,
-    end: &Option<Ticks>,
-) -> Option<Span>
-    requires { AllByRecursion (λ g. pos 0 ≤ℤ g) (gaps_of S.gap tracks.now.items) }
-    ensures { IfSome (slice_get
-        (map (with_end end.now) (ranges_in S.frames S.gap tracks.now.items)) i)
-        (λ r. result ≡ find (has_end_after t) r) }
-{
-    match tracks.get(i) {
-        Some(track) => track_span_after(track, t, end),
-        None => None,
-    }
-}
-
 /// Of each track the first range that ends after a time: from the latest start to the earliest
 /// end, which may be before it. `None` exactly where a track has no such range, or there is no
 /// track.
@@ -89,9 +40,9 @@ fn narrowed_after<S: FrameStore>(tracks: &Tracks<S>, t: Ticks, end: &Option<Tick
     if tracks.len() == 0 {
         return None;
     }
-    let mut span = span_after_at(tracks, 0, t, end);
+    let mut span = span_at(tracks, 0, Sought::EndAfter(t), end);
     for i in 1..tracks.len() {
-        span = narrowed_of_two(span, span_after_at(tracks, i, t, end));
+        span = narrowed_of_two(span, span_at(tracks, i, Sought::EndAfter(t), end));
     }
     span
 }
@@ -120,10 +71,7 @@ fn span_before_at<S: FrameStore>(tracks: &Tracks<S>, i: usize, t: Ticks) -> Opti
     ensures { IfSome (slice_get (ranges_in S.frames S.gap tracks.now.items) i)
         (λ r. result ≡ last_of (filter (has_start_before t) r)) }
 {
-    match tracks.get(i) {
-        Some(track) => track.store.last_span_before(t),
-        None => None,
-    }
+    tracks.get(i)?.store.last_span_before(t)
 }
 
 /// Of each track the last range that starts before a time: from the latest start to the earliest

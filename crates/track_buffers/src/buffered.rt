@@ -19,13 +19,8 @@ fn last_end_at<S: FrameStore>(tracks: &Tracks<S>, i: usize) -> Option<Ticks>
     ensures { IfSome (slice_get (ranges_in S.frames S.gap tracks.now.items) i)
         (λ r. result ≡ last_end r) }
 {
-    match tracks.get(i) {
-        Some(track) => match track.store.last_span() {
-            Some(span) => Some(span.end),
-            None => None,
-        },
-        None => None,
-    }
+    let last = tracks.get(i)?.store.last_span()?;
+    Some(last.end)
 }
 
 /// The highest end of the ranges of all tracks.
@@ -55,14 +50,12 @@ pub fn extend_last(ranges: &mut Ranges, end: Ticks) -> Result<(), OutOfMemory>
     ensures ok { OnOk result (ranges.new.spans ≡ with_last_end end ranges.old.spans) }
     ensures err { OnErr result (ranges.new.spans ≡ ranges.old.spans) }
 {
-    match ranges.last() {
-        Some(last) => {
-            ranges.reserve(1)?;
-            ranges.add_span(span_up_to(last, end), Ticks::zero());
-            Ok(())
-        }
-        None => Ok(()),
-    }
+    let Some(last) = ranges.last() else {
+        return Ok(());
+    };
+    ranges.reserve(1)?;
+    ranges.add_span(span_up_to(last, end), Ticks::zero());
+    Ok(())
 }
 
 /// The ranges of a track, of which the last lasts to an end, where there is one.

@@ -30,6 +30,36 @@ use std::alloc::Global;
 use std::marker::Model;
 use track_store::{FrameStore, Settings, Tracks};
 
+/// What is known of the track buffers without a look at each of them.
+#[derive(Clone, Copy, Debug)]
+pub(crate) struct Known {
+    pub(crate) ahead: Ahead,
+    pub(crate) watch: Option<Watch>,
+    /// The track of the last frame.
+    pub(crate) last: Option<TrackPlace>,
+    /// The bytes of all stored frames.
+    pub(crate) used: u64,
+}
+
+impl Known {
+    /// What is known once the tracks have changed: how many bytes their frames have.
+    fn after_change(used: u64) -> Known
+        ensures { result ≡ record {
+          ahead = record { place = 0; own = 0; others = 0 };
+          watch = None;
+          last = None;
+          used = used;
+        } }
+    {
+        Known {
+            ahead: Ahead::NONE,
+            watch: None,
+            last: None,
+            used,
+        }
+    }
+}
+
 /// The track buffers of a source buffer, and how its frames are placed.
 ///
 /// Contracts see the media, for how many more frames each store has room, and for how many more
@@ -43,12 +73,7 @@ pub struct TrackBuffers<S: FrameStore> {
     settings: Settings,
     pending: bool,
     gap: Ticks,
-    ahead: Ahead,
-    watch: Option<Watch>,
-    /// The track of the last frame.
-    last: Option<TrackPlace>,
-    /// The bytes of all stored frames.
-    used: u64,
+    known: Known,
 }
 
 impl<S: FrameStore> Model for TrackBuffers<S> {
@@ -71,10 +96,10 @@ impl<S: FrameStore> Model for TrackBuffers<S> {
 
     ghost invariant = { λ b. HasMediaInvariants (states_of S.frames b.tracks.items)
         (gaps_of S.gap b.tracks.items) b.settings b.gap
-        × HasRoomAhead S.spare b.ahead b.tracks.items
-        × IfSome b.watch (λ w. IsWatchOf w (ranges_in S.frames S.gap b.tracks.items))
-        × IfSome b.last (λ l. IsTrackPlace l (states_of S.frames b.tracks.items))
-        × (b.used ≡ bytes_in (states_of S.frames b.tracks.items)) };
+        × HasRoomAhead S.spare b.known.ahead b.tracks.items
+        × IfSome b.known.watch (λ w. IsWatchOf w (ranges_in S.frames S.gap b.tracks.items))
+        × IfSome b.known.last (λ l. IsTrackPlace l (states_of S.frames b.tracks.items))
+        × (b.known.used ≡ bytes_in (states_of S.frames b.tracks.items)) };
 }
 
 impl<S: FrameStore> TrackBuffers<S> {
@@ -98,10 +123,7 @@ impl<S: FrameStore> TrackBuffers<S> {
             },
             pending: false,
             gap,
-            ahead: Ahead::NONE,
-            watch: None,
-            last: None,
-            used: 0,
+            known: Known::after_change(0),
         }
     }
 
@@ -113,10 +135,10 @@ impl<S: FrameStore> TrackBuffers<S> {
         ensures no_room_lost { self.old.room ≤ self.new.room }
         ensures places { self.new.places ≡ self.old.places }
     {
-        if n <= self.ahead.least() {
+        if n <= self.known.ahead.least() {
             return Ok(());
         }
-        self.ahead = reserve_ahead(&mut self.tracks, self.ahead, n)?;
+        self.known.ahead = reserve_ahead(&mut self.tracks, self.known.ahead, n)?;
         Ok(())
     }
 
@@ -177,10 +199,7 @@ impl<S: FrameStore> TrackBuffers<S> {
                 let is_first = self.tracks.len() == 0;
                 let news = presentation.tracks.as_slice();
                 take_tracks(&mut self.tracks, self.alloc, self.gap, news);
-                self.ahead = Ahead::NONE;
-                self.watch = None;
-                self.last = None;
-                self.used = self.tracks.used();
+                self.known = Known::after_change(self.tracks.used());
                 self.pending = false;
                 MediaEffect::Done(SourceEffect {
                     duration_changes: effect.duration_changes,
@@ -209,16 +228,16 @@ impl<S: FrameStore> TrackBuffers<S> {
         ensures places { self.new.places ≡ self.old.places }
     {
         let id = frame.track_id;
-        match place_from(&self.tracks, &self.last, id) {
+        match place_from(&self.tracks, &self.known.last, id) {
             Some(i) => {
-                let old = own_span(&self.tracks, i, &self.watch);
+                let old = own_span(&self.tracks, i, &self.known.watch);
                 let stored = used_at(&self.tracks, i);
-                self.ahead = self.ahead.after_frame(i);
+                self.known.ahead = self.known.ahead.after_frame(i);
                 let (tracks, settings) = (&mut self.tracks, &mut self.settings);
-                let effect = process_at(tracks, settings, i, frame, &duration, self.used);
-                self.used = self.used - stored + used_at(&self.tracks, i);
-                self.watch = watch_after(&self.tracks, i, self.watch, &old);
-                self.last = Some(TrackPlace { id, place: i });
+                let effect = process_at(tracks, settings, i, frame, &duration, self.known.used);
+                self.known.used = self.known.used - stored + used_at(&self.tracks, i);
+                self.known.watch = watch_after(&self.tracks, i, self.known.watch, &old);
+                self.known.last = Some(TrackPlace { id, place: i });
                 effect
             }
             None => MediaEffect::Done(no_effect(&duration)),
@@ -231,8 +250,8 @@ impl<S: FrameStore> TrackBuffers<S> {
     pub fn watch(&mut self, t: Ticks)
         ensures { self.new ≡ self.old }
     {
-        if self.tracks.len() > 2 && !is_watched(&self.watch, t) {
-            self.watch = Some(watch_of(&self.tracks, t));
+        if self.tracks.len() > 2 && !is_watched(&self.known.watch, t) {
+            self.known.watch = Some(watch_of(&self.tracks, t));
         }
     }
 
@@ -272,10 +291,7 @@ impl<S: FrameStore> TrackBuffers<S> {
         ensures places { self.new.places ≡ self.old.places }
     {
         unset_all(&mut self.tracks);
-        self.ahead = Ahead::NONE;
-        self.watch = None;
-        self.last = None;
-        self.used = self.tracks.used();
+        self.known = Known::after_change(self.tracks.used());
         if self.settings.sequence {
             self.settings.group_start = Some(self.settings.group_end);
         }
@@ -293,10 +309,7 @@ impl<S: FrameStore> TrackBuffers<S> {
         ensures places { self.new.places ≡ self.old.places }
     {
         remove_frames(&mut self.tracks, start, end, duration);
-        self.ahead = Ahead::NONE;
-        self.watch = None;
-        self.last = None;
-        self.used = self.tracks.used();
+        self.known = Known::after_change(self.tracks.used());
     }
 
     /// Makes room for `new_bytes` bytes, where the stored frames have `quota` bytes or more (Media
@@ -312,10 +325,7 @@ impl<S: FrameStore> TrackBuffers<S> {
         ensures places { self.new.places ≡ self.old.places }
     {
         evict(&mut self.tracks, position, new_bytes, quota, duration);
-        self.ahead = Ahead::NONE;
-        self.watch = None;
-        self.last = None;
-        self.used = self.tracks.used();
+        self.known = Known::after_change(self.tracks.used());
     }
 
     /// How frames are placed.
@@ -403,7 +413,7 @@ impl<S: FrameStore> TrackBuffers<S> {
         ensures value { result ≡ used_in self.now.media }
         ensures small { result < 2 ^ 62 }
     {
-        self.used
+        self.known.used
     }
 
     /// The greatest presentation timestamp, in ticks; `None` exactly where there is no frame.
@@ -442,7 +452,7 @@ impl<S: FrameStore> TrackBuffers<S> {
     pub fn span_holding(&self, t: Ticks, ended: bool) -> Option<Span>
         ensures { result ≡ find (reaches t) (buffered_of ended self.now.media) }
     {
-        watched_span(&self.tracks, &self.watch, t, ended)
+        watched_span(&self.tracks, &self.known.watch, t, ended)
     }
 
     /// The first buffered range; `None` exactly where there is none. It takes no memory.

@@ -1,67 +1,16 @@
 //! The buffered range that holds a time, found without memory.
 
-ghost use Rattle.std.specs.Prelude.{◌≡◌, ◌≤ℤ◌, pos, true, find, map, slice_get, IfSome};
+ghost use Rattle.std.specs.Prelude.{◌≡◌, ◌≤ℤ◌, pos, true, find, slice_get, IfSome};
 ghost use Rattle.std.specs.List.{AllByRecursion};
 ghost use Rattle.mse_base.specs.Meets.{meet_of_all, overlap_of_two};
 ghost use Rattle.mse_base.specs.Spans.{last_of, reaches};
-ghost use Rattle.track_store.specs.Frames.{ranges_of};
 ghost use Rattle.track_store.specs.Kept.{gaps_of};
-ghost use Rattle.track_buffers.specs.Buffered.{with_common_end, with_end, with_last_end, ranges_in};
+ghost use Rattle.track_buffers.specs.Buffered.{with_common_end, ranges_in};
 
-use crate::buffered::{common_end, highest_range_end, span_up_to};
+use crate::buffered::{common_end, highest_range_end};
+use crate::sought::{Sought, span_at};
 use mse_base::{Span, Ticks};
-use track_store::{FrameStore, Track, Tracks};
-
-/// The range of a track that holds a time, where the last one lasts to an end.
-fn extended_span_holding<S: FrameStore>(track: &Track<S>, t: Ticks, end: Ticks) -> Option<Span>
-    requires { pos 0 ≤ℤ S.gap track.now.store }
-    ensures { result ≡ find (reaches t)
-        (with_last_end end (ranges_of (S.gap track.now.store) (S.frames track.now.store))) }
-{
-    match track.store.last_span() {
-        Some(last) => {
-            if t < last.start {
-                return track.store.span_holding(t);
-            }
-            let span = span_up_to(last, end);
-            if span.end < t { None } else { Some(span) }
-        }
-        None => None,
-    }
-}
-
-/// The range of a track that holds a time, where the last one lasts to an end if there is one.
-fn track_span_holding<S: FrameStore>(
-    track: &Track<S>,
-    t: Ticks,
-    end: &Option<Ticks>,
-) -> Option<Span>
-    requires { pos 0 ≤ℤ S.gap track.now.store }
-    ensures { result ≡ find (reaches t)
-        (with_end end.now (ranges_of (S.gap track.now.store) (S.frames track.now.store))) }
-{
-    match end {
-        Some(end) => extended_span_holding(track, t, *end),
-        None => track.store.span_holding(t),
-    }
-}
-
-fn span_at<S: FrameStore>(
-    tracks: &Tracks<S>,
-    i: usize,
-    t: Ticks,
-    end: &Option<Ticks>,
-) -> Option<Span>
-    requires { AllByRecursion (λ g. pos 0 ≤ℤ g) (gaps_of S.gap tracks.now.items) }
-    ensures { IfSome (slice_get
-        (map (with_end end.now) (ranges_in S.frames S.gap tracks.now.items)) i)
-        (λ r. result ≡ find (reaches t) r) }
-{
-    match tracks.get(i) {
-        Some(track) => track_span_holding(track, t, end),
-        None => None,
-    }
-}
+use track_store::{FrameStore, Tracks};
 
 /// The ticks that two spans share, neither of which is missing.
 pub fn overlap_of_two(x: Option<Span>, y: Option<Span>) -> Option<Span>
@@ -85,9 +34,9 @@ fn shared_span_holding<S: FrameStore>(tracks: &Tracks<S>, t: Ticks, ended: bool)
     if tracks.len() == 0 {
         return None;
     }
-    let mut span = span_at(tracks, 0, t, &end);
+    let mut span = span_at(tracks, 0, Sought::Holding(t), &end);
     for i in 1..tracks.len() {
-        span = overlap_of_two(span, span_at(tracks, i, t, &end));
+        span = overlap_of_two(span, span_at(tracks, i, Sought::Holding(t), &end));
     }
     span
 }

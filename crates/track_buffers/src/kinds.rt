@@ -8,13 +8,7 @@ use mse_types::codec_known;
 fn count_media(tracks: &[TrackInfo]) -> usize
     ensures { result ≡ length (filter is_media_track tracks.now) }
 {
-    let mut count = 0;
-    for track in tracks {
-        if track.kind.is_media() {
-            count += 1;
-        }
-    }
-    count
+    tracks.iter().filter(|track| track.kind.is_media()).count()
 }
 
 /// How many tracks of an initialization segment a buffer takes frames of: those of video and
@@ -29,13 +23,10 @@ pub fn media_track_count(presentation: &Presentation) -> usize
 pub(crate) fn count_new(tracks: &[TrackInfo], kind: Kind) -> usize
     ensures { result ≡ count_of kind (new_kinds (filter is_media_track tracks.now)) }
 {
-    let mut count = 0;
-    for track in tracks {
-        if track.kind.is_media() && kind == track.kind {
-            count += 1;
-        }
-    }
-    count
+    tracks
+        .iter()
+        .filter(|track| track.kind.is_media() && kind == track.kind)
+        .count()
 }
 
 fn is_known(track: &TrackInfo) -> bool
@@ -48,10 +39,7 @@ fn is_known(track: &TrackInfo) -> bool
 pub(crate) fn are_known(tracks: &[TrackInfo]) -> bool
     ensures { result ≡ list_all is_known (filter is_media_track tracks.now) }
 {
-    for track in tracks {
-        if track.kind.is_media() && !is_known(track) {
-            return false;
-        }
-    }
-    true
+    tracks
+        .iter()
+        .all(|track| !track.kind.is_media() || is_known(track))
 }

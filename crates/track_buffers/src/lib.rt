@@ -23,6 +23,7 @@ mod looks;
 mod partners;
 pub mod range_laws;
 mod rooms;
+mod sought;
 mod watch;
 
 pub use buffered::{extend_last, span_up_to};

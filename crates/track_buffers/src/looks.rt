@@ -89,14 +89,11 @@ fn push_view<S: FrameStore>(
     ensures { OnOk result (IfSome (slice_get tracks.now.items i) (λ t. views.new.items
         ≡ views.old.items ++ track_view (S.gap t.store) (state_of S.frames t) ∷ [])) }
 {
-    match tracks.get(i) {
-        Some(track) => {
-            let view = view_of(track)?;
-            views.push(view)?;
-            Ok(())
-        }
-        None => Ok(()),
+    if let Some(track) = tracks.get(i) {
+        let view = view_of(track)?;
+        views.push(view)?;
     }
+    Ok(())
 }
 
 /// What the track buffers hold.

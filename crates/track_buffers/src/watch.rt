@@ -101,17 +101,16 @@ fn least_after_end(watch: &Watch, old: Ticks, new: Ticks) -> Option<usize>
     ensures { result ≡ least_after_end watch.now old new }
 {
     let end = end_or(watch.t, &watch.span);
-    if end < new {
-        if end < old {
-            Some(watch.least)
-        } else if 2 <= watch.least && is_ended_at(old, &watch.span) {
-            Some(watch.least - 1)
-        } else {
-            None
-        }
-    } else {
-        None
+    if new <= end {
+        return None;
     }
+    if end < old {
+        return Some(watch.least);
+    }
+    if 2 <= watch.least && is_ended_at(old, &watch.span) {
+        return Some(watch.least - 1);
+    }
+    None
 }
 
 /// The same, where the range of one track changes so.
@@ -119,17 +118,9 @@ fn least_after(watch: &Watch, old: &Option<Span>, new: &Option<Span>) -> Option<
     ensures { result ≡ least_after watch.now old.now new.now }
 {
     match (old, new) {
-        (Some(old), Some(new)) => {
-            if old.start == new.start {
-                if old.end == new.end {
-                    Some(watch.least)
-                } else {
-                    least_after_end(watch, old.end, new.end)
-                }
-            } else {
-                None
-            }
-        }
+        (Some(old), Some(new)) if old.start != new.start => None,
+        (Some(old), Some(new)) if old.end == new.end => Some(watch.least),
+        (Some(old), Some(new)) => least_after_end(watch, old.end, new.end),
         (None, None) => Some(watch.least),
         _ => None,
     }

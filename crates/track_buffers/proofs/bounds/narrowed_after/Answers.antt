@@ -16,6 +16,6 @@ loop-i-preserved g c =
     let here : c.loop-i.i < length rs = omega (arith, c.len-i-end.ensures, c.loop-i-test.true) in
     let front : 1 ≤ length (take c.loop-i.i rs) = rw length-take (omega (arith, c.loop-i.invariant.some)) in
     record {
-      held = narrowed_more (find (has_end_after c.args.t)) rs c.loop-i.i c.loop-i.span c.span_after_at.result c.narrowed_of_two-span.result here front c.loop-i.invariant.held c.span_after_at.ensures c.narrowed_of_two-span.ensures;
+      held = narrowed_more (find (has_end_after c.args.t)) rs c.loop-i.i c.loop-i.span c.span_at.result c.narrowed_of_two-span.result here front c.loop-i.invariant.held c.span_at.ensures c.narrowed_of_two-span.ensures;
       some = omega arith;
     }

@@ -1,21 +1,11 @@
-use Rattle.std.proofs.Common.{sym, ◌∙◌, ◌≡◌, ◌||◌, not, ap, false}
-use Rattle.std.specs.List.{list_all}
-use Rattle.std.proofs.lemmas.List.{take_all}
-use Rattle.std.proofs.lemmas.List.Folds.{list_all_at}
-use Rattle.mse_base.specs.declared.track.TrackInfo.{TrackInfo}
+use Rattle.std.proofs.Common.{rules, tests, sym, ◌∙◌, ◌||◌, not}
+use Rattle.std.proofs.lemmas.Iterator.{YieldsList-from_slice}
+use Rattle.std.proofs.lemmas.Iterator.Search.{all_from_yields_List}
 use Rattle.track_buffers.specs.Initialized.{is_media_track, is_known}
 use Rattle.track_buffers.proofs.Loops.{all-filter}
 use Rattle.track_buffers.proofs.kinds.are_known.Goals as goal
 
-pub returns-then-not-is_known : goal.returns-then-not-is_known
-returns-then-not-is_known c =
-    let us = c.args.tracks.now in
-    let x = c.track-item.result in
-    let p = λ (u : TrackInfo). not (is_media_track u) || is_known u in
-    let fails : p x ≡ false = ap (λ b. not b || is_known x) (sym c.is_media.ensures ∙ c.if-is_media.true) ∙ sym c.is_known.ensures ∙ c.if-not-is_known.true in
-    sym (all-filter is_known is_media_track us ∙ list_all_at p us c.loop-track.track-index x c.loop-track-test.true (ap p (sym c.track-item.is) ∙ fails))
-
 pub returns : goal.returns
 returns c =
-    let us = c.args.tracks.now in
-    sym (all-filter is_known is_media_track us ∙ ap (list_all (λ (u : TrackInfo). not (is_media_track u) || is_known u)) (sym (take_all c.loop-track.track-index us c.loop-track-test.false)) ∙ c.loop-track.invariant)
+    all_from_yields_List (λ u. not (is_media_track u) || is_known u) _ _ c.all.result c.all.ensures.ran (YieldsList-from_slice c.args.tracks.now cc) (λ x b q k. search (rules, tests))
+    ∙ sym (all-filter is_known is_media_track c.args.tracks.now)

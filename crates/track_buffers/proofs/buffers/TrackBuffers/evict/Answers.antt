@@ -21,4 +21,4 @@ invariant_of-self g c =
     let b = c.self.inside in
     let ts = b.tracks.items in
     let us = c.evict.new.tracks.items in
-    (steady_by (states_of F ts) (states_of F us) (gaps_of G ts) (gaps_of G us) b.settings _ b.gap c.self.invariant.0 (c.evict.ensures.sound_and_countable c.self.invariant.0.sound) c.evict.ensures.gaps c.self.invariant.0.window_start refl, ahead_none g.S.FrameStore.spare us, tt, tt, c.used-self-inside.ensures)
+    rw c.after_change-self-inside.ensures (steady_by (states_of F ts) (states_of F us) (gaps_of G ts) (gaps_of G us) b.settings _ b.gap c.self.invariant.0 (c.evict.ensures.sound_and_countable c.self.invariant.0.sound) c.evict.ensures.gaps c.self.invariant.0.window_start refl, ahead_none g.S.FrameStore.spare us, tt, tt, c.used.ensures)

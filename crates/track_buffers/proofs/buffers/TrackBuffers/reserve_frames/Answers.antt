@@ -16,9 +16,9 @@ returns-then-n-least-clause-spare g c =
     let b = c.self.inside in
     let most : c.args.n ≤ 2 ^ 64 = omega (arith, c.ranges.n) in
     let less : c.args.n ≤ c.least.result = omega (arith, c.if-n-least.true) in
-    let own : c.args.n ≤ b.ahead.own = omega (arith, less, c.least.ensures.own) in
-    let others : c.args.n ≤ b.ahead.others = omega (arith, less, c.least.ensures.others) in
-    rw (← c.self.view_is) (all_room g.S.FrameStore.spare c.args.n b.tracks.items most (ahead_least g.S.FrameStore.spare c.args.n b.ahead b.tracks.items own others c.self.invariant.1))
+    let own : c.args.n ≤ b.known.ahead.own = omega (arith, less, c.least.ensures.own) in
+    let others : c.args.n ≤ b.known.ahead.others = omega (arith, less, c.least.ensures.others) in
+    rw (← c.self.view_is) (all_room g.S.FrameStore.spare c.args.n b.tracks.items most (ahead_least g.S.FrameStore.spare c.args.n b.known.ahead b.tracks.items own others c.self.invariant.1))
 
 pub invariant_of-self : goal.invariant_of-self
 invariant_of-self g c =
@@ -29,7 +29,7 @@ invariant_of-self g c =
     let us = c.reserve_ahead.new.tracks.items in
     let r = c.reserve_ahead.ensures in
     let kept = subst (λ (xs : List TrackState). AreSoundAndCountable xs) (sym r.states) c.self.invariant.0.sound in
-    (steady_by (states_of F ts) (states_of F us) (gaps_of G ts) (gaps_of G us) b.settings _ b.gap c.self.invariant.0 kept r.gaps c.self.invariant.0.window_start refl, ahead_kept g.S.FrameStore.spare b.ahead ts us (same_length G ts us r.gaps) r.no_room_lost c.self.invariant.1, watch_kept b.watch (ranges_in F G ts) (ranges_in F G us) (ranges_kept F G b.gap ts us c.self.invariant.0.gaps_are r.gaps r.states) c.self.invariant.2, subst (λ (xs : List TrackState). IfSome b.last (λ l. IsTrackPlace l xs)) (sym r.states) c.self.invariant.3, c.self.invariant.4 ∙ sym (ap bytes_in r.states))
+    (steady_by (states_of F ts) (states_of F us) (gaps_of G ts) (gaps_of G us) b.settings _ b.gap c.self.invariant.0 kept r.gaps c.self.invariant.0.window_start refl, ahead_kept g.S.FrameStore.spare b.known.ahead ts us (same_length G ts us r.gaps) r.no_room_lost c.self.invariant.1, watch_kept b.known.watch (ranges_in F G ts) (ranges_in F G us) (ranges_kept F G b.gap ts us c.self.invariant.0.gaps_are r.gaps r.states) c.self.invariant.2, subst (λ (xs : List TrackState). IfSome b.known.last (λ l. IsTrackPlace l xs)) (sym r.states) c.self.invariant.3, c.self.invariant.4 ∙ sym (ap bytes_in r.states))
 
 pub invariant_of-self-2 : goal.invariant_of-self-2
 invariant_of-self-2 g c =
@@ -40,7 +40,7 @@ invariant_of-self-2 g c =
     let us = c.reserve_ahead.new.tracks.items in
     let r = c.reserve_ahead.ensures in
     let kept = subst (λ (xs : List TrackState). AreSoundAndCountable xs) (sym r.states) c.self.invariant.0.sound in
-    (steady_by (states_of F ts) (states_of F us) (gaps_of G ts) (gaps_of G us) b.settings _ b.gap c.self.invariant.0 kept r.gaps c.self.invariant.0.window_start refl, c.in_ok-self-inside.ensures.spare.2, watch_kept b.watch (ranges_in F G ts) (ranges_in F G us) (ranges_kept F G b.gap ts us c.self.invariant.0.gaps_are r.gaps r.states) c.self.invariant.2, subst (λ (xs : List TrackState). IfSome b.last (λ l. IsTrackPlace l xs)) (sym r.states) c.self.invariant.3, c.self.invariant.4 ∙ sym (ap bytes_in r.states))
+    (steady_by (states_of F ts) (states_of F us) (gaps_of G ts) (gaps_of G us) b.settings _ b.gap c.self.invariant.0 kept r.gaps c.self.invariant.0.window_start refl, c.in_ok-self-inside.ensures.spare.2, watch_kept b.known.watch (ranges_in F G ts) (ranges_in F G us) (ranges_kept F G b.gap ts us c.self.invariant.0.gaps_are r.gaps r.states) c.self.invariant.2, subst (λ (xs : List TrackState). IfSome b.known.last (λ l. IsTrackPlace l xs)) (sym r.states) c.self.invariant.3, c.self.invariant.4 ∙ sym (ap bytes_in r.states))
 
 pub returns-clause-spare : goal.returns-clause-spare
 returns-clause-spare g c =

@@ -30,7 +30,7 @@ invariant_of-self g c =
     let b = c.self.inside in
     let ts = b.tracks.items in
     let us = c.unset_all.new.tracks.items in
-    (steady_by (states_of F ts) (states_of F us) (gaps_of G ts) (gaps_of G us) b.settings _ b.gap c.self.invariant.0 (c.unset_all.ensures.sound_and_countable c.self.invariant.0.sound) c.unset_all.ensures.gaps c.self.invariant.0.window_start refl, ahead_none g.S.FrameStore.spare us, tt, tt, c.used-self-inside.ensures)
+    rw c.after_change-self-inside.ensures (steady_by (states_of F ts) (states_of F us) (gaps_of G ts) (gaps_of G us) b.settings _ b.gap c.self.invariant.0 (c.unset_all.ensures.sound_and_countable c.self.invariant.0.sound) c.unset_all.ensures.gaps c.self.invariant.0.window_start refl, ahead_none g.S.FrameStore.spare us, tt, tt, c.used.ensures)
 
 pub invariant_of-self-else-self : goal.invariant_of-self-else-self
 invariant_of-self-else-self g c =
@@ -39,4 +39,4 @@ invariant_of-self-else-self g c =
     let b = c.self.inside in
     let ts = b.tracks.items in
     let us = c.unset_all.new.tracks.items in
-    (steady_by (states_of F ts) (states_of F us) (gaps_of G ts) (gaps_of G us) b.settings _ b.gap c.self.invariant.0 (c.unset_all.ensures.sound_and_countable c.self.invariant.0.sound) c.unset_all.ensures.gaps c.self.invariant.0.window_start refl, ahead_none g.S.FrameStore.spare us, tt, tt, c.used-self-inside.ensures)
+    rw c.after_change-self-inside.ensures (steady_by (states_of F ts) (states_of F us) (gaps_of G ts) (gaps_of G us) b.settings _ b.gap c.self.invariant.0 (c.unset_all.ensures.sound_and_countable c.self.invariant.0.sound) c.unset_all.ensures.gaps c.self.invariant.0.window_start refl, ahead_none g.S.FrameStore.spare us, tt, tt, c.used.ensures)
