@@ -34,3 +34,4 @@ pub mod Lists
 pub mod Examples
 pub mod Initialized
 pub mod Evictions
+pub mod Unmade

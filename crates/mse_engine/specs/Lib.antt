@@ -14,6 +14,7 @@ pub mod Positions
 pub mod Settled
 pub mod Lists
 pub mod Standing
+pub mod EngineCalls
 pub mod Progress
 pub mod DrainCounts
 pub mod Sound

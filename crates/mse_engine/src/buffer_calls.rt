@@ -1,10 +1,11 @@
 //! The calls on a source buffer (Media Source Extensions, 3.1 and 3.2).
 
-ghost use Rattle.std.specs.Prelude.{◌≡◌, [], OnErr};
+ghost use Rattle.std.specs.Prelude.{[]};
 ghost use Rattle.media_element.specs.State.{ElementState};
 ghost use Rattle.mse_calls.specs.declared.calls.Call.TheVariants as call;
 ghost use Rattle.mse_engine.specs.Calls.{after_buffer_call, after_call};
-ghost use Rattle.mse_engine.specs.Standing.{IsEngineAnswer, IsSteady, kept_engine};
+ghost use Rattle.mse_engine.specs.Standing.{IsSteady, kept_engine};
+ghost use Rattle.mse_engine.specs.EngineCalls.{IsEngineCall, IsEngineRead};
 
 use crate::finish::{PLACES, is_blank, settle, tell_call};
 use crate::media_source::{MediaSource, around};
@@ -25,13 +26,9 @@ pub(crate) fn call<S: FrameStore>(
     call: &BufferCall,
 ) -> Result<Answer, OutOfMemory>
     requires steady { IsSteady (kept_engine source.old buffers.old.buffers element.old.state) }
-    ensures answered { IsEngineAnswer
-        (kept_engine source.old buffers.old.buffers element.old.state) result
+    ensures { IsEngineCall (kept_engine source.old buffers.old.buffers element.old.state) result
         (kept_engine source.new buffers.new.buffers element.new.state)
         (after_buffer_call k call.now) }
-    ensures steady { IsSteady (kept_engine source.new buffers.new.buffers element.new.state) }
-    ensures err { OnErr result (kept_engine source.new buffers.new.buffers element.new.state
-        ≡ kept_engine source.old buffers.old.buffers element.old.state) }
 {
     element.reserve(buffers.most_changes(k, call) + PLACES)?;
     let around = around(source, element, k);
@@ -48,9 +45,8 @@ pub(crate) fn buffered<S: FrameStore>(
     buffers: &SourceBuffers<S>,
     k: u32,
 ) -> Result<Answer, OutOfMemory>
-    ensures { (e : ElementState) → IsSteady (kept_engine source.now buffers.now.buffers e)
-        → IsEngineAnswer (kept_engine source.now buffers.now.buffers e) result
-        (kept_engine source.now buffers.now.buffers e) (after_call [] (call.Buffered k)) }
+    ensures { (e : ElementState) → IsEngineRead (kept_engine source.now buffers.now.buffers e)
+        result (after_call [] (call.Buffered k)) }
 {
     if !buffers.is_made(k) {
         return Ok(Answer::Refused(Name::NoSuchBuffer));

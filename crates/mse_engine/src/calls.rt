@@ -50,13 +50,8 @@ pub(crate) fn make_call<S: FrameStore>(
             of_buffer::call(source, buffers, element, *k, &BufferCall::SetOffset(*t))
         }
         Call::SetAppendWindowStart(k, t) => {
-            of_buffer::call(
-                source,
-                buffers,
-                element,
-                *k,
-                &BufferCall::SetWindowStart(*t),
-            )
+            let set = BufferCall::SetWindowStart(*t);
+            of_buffer::call(source, buffers, element, *k, &set)
         }
         Call::SetAppendWindowEnd(k, t) => {
             of_buffer::call(source, buffers, element, *k, &BufferCall::SetWindowEnd(*t))

@@ -1,11 +1,12 @@
 //! The calls on the element (HTML, media elements), and what is read.
 
-ghost use Rattle.std.specs.Prelude.{◌≡◌, [], OnErr};
+ghost use Rattle.std.specs.Prelude.{◌≡◌, []};
 ghost use Rattle.mse_calls.specs.declared.calls.Call.TheVariants as call;
 ghost use Rattle.media_element.specs.State.{ElementState};
 ghost use Rattle.mse_engine.specs.State.{State};
 ghost use Rattle.mse_engine.specs.Calls.{after_call, state_view};
-ghost use Rattle.mse_engine.specs.Standing.{IsEngineAnswer, IsSteady, kept_engine};
+ghost use Rattle.mse_engine.specs.Standing.{IsSteady, kept_engine};
+ghost use Rattle.mse_engine.specs.EngineCalls.{IsEngineCall, IsEngineRead};
 
 use crate::finish::{PLACES, settle};
 use crate::media_source::MediaSource;
@@ -25,13 +26,9 @@ pub(crate) fn seek<S: FrameStore>(
     t: Moment,
 ) -> Result<Answer, OutOfMemory>
     requires steady { IsSteady (kept_engine source.now buffers.now.buffers element.old.state) }
-    ensures answered { IsEngineAnswer
-        (kept_engine source.now buffers.now.buffers element.old.state) result
+    ensures { IsEngineCall (kept_engine source.now buffers.now.buffers element.old.state) result
         (kept_engine source.now buffers.now.buffers element.new.state)
         (after_call [] (call.Seek t)) }
-    ensures steady { IsSteady (kept_engine source.now buffers.now.buffers element.new.state) }
-    ensures err { OnErr result (kept_engine source.now buffers.now.buffers element.new.state
-        ≡ kept_engine source.now buffers.now.buffers element.old.state) }
 {
     let Moment::At(t) = t else {
         return Ok(Answer::Refused(Name::TypeError));
@@ -51,13 +48,8 @@ pub(crate) fn play<S: FrameStore>(
     element: &mut Element,
 ) -> Result<Answer, OutOfMemory>
     requires steady { IsSteady (kept_engine source.now buffers.now.buffers element.old.state) }
-    ensures answered { IsEngineAnswer
-        (kept_engine source.now buffers.now.buffers element.old.state) result
-        (kept_engine source.now buffers.now.buffers element.new.state)
-        (after_call [] call.Play) }
-    ensures steady { IsSteady (kept_engine source.now buffers.now.buffers element.new.state) }
-    ensures err { OnErr result (kept_engine source.now buffers.now.buffers element.new.state
-        ≡ kept_engine source.now buffers.now.buffers element.old.state) }
+    ensures { IsEngineCall (kept_engine source.now buffers.now.buffers element.old.state) result
+        (kept_engine source.now buffers.now.buffers element.new.state) (after_call [] call.Play) }
 {
     element.reserve(PLACES)?;
     let seekable = scenes::seekable(source, buffers)?;
@@ -74,13 +66,8 @@ pub(crate) fn pause<S: FrameStore>(
     element: &mut Element,
 ) -> Result<Answer, OutOfMemory>
     requires steady { IsSteady (kept_engine source.now buffers.now.buffers element.old.state) }
-    ensures answered { IsEngineAnswer
-        (kept_engine source.now buffers.now.buffers element.old.state) result
-        (kept_engine source.now buffers.now.buffers element.new.state)
-        (after_call [] call.Pause) }
-    ensures steady { IsSteady (kept_engine source.now buffers.now.buffers element.new.state) }
-    ensures err { OnErr result (kept_engine source.now buffers.now.buffers element.new.state
-        ≡ kept_engine source.now buffers.now.buffers element.old.state) }
+    ensures { IsEngineCall (kept_engine source.now buffers.now.buffers element.old.state) result
+        (kept_engine source.now buffers.now.buffers element.new.state) (after_call [] call.Pause) }
 {
     element.reserve(PLACES)?;
     element.pause();
@@ -96,13 +83,9 @@ pub(crate) fn advance<S: FrameStore>(
     t: Moment,
 ) -> Result<Answer, OutOfMemory>
     requires steady { IsSteady (kept_engine source.now buffers.now.buffers element.old.state) }
-    ensures answered { IsEngineAnswer
-        (kept_engine source.now buffers.now.buffers element.old.state) result
+    ensures { IsEngineCall (kept_engine source.now buffers.now.buffers element.old.state) result
         (kept_engine source.now buffers.now.buffers element.new.state)
         (after_call [] (call.Advance t)) }
-    ensures steady { IsSteady (kept_engine source.now buffers.now.buffers element.new.state) }
-    ensures err { OnErr result (kept_engine source.now buffers.now.buffers element.new.state
-        ≡ kept_engine source.now buffers.now.buffers element.old.state) }
 {
     let Moment::At(t) = t else {
         return Ok(Answer::Refused(Name::TypeError));
@@ -135,10 +118,8 @@ pub(crate) fn element_buffered<S: FrameStore>(
     source: &MediaSource,
     buffers: &SourceBuffers<S>,
 ) -> Result<Answer, OutOfMemory>
-    ensures { (e : ElementState) → IsSteady (kept_engine source.now buffers.now.buffers e)
-        → IsEngineAnswer (kept_engine source.now buffers.now.buffers e) result
-        (kept_engine source.now buffers.now.buffers e)
-        (after_call [] call.ElementBuffered) }
+    ensures { (e : ElementState) → IsEngineRead (kept_engine source.now buffers.now.buffers e)
+        result (after_call [] call.ElementBuffered) }
 {
     let ranges = scenes::buffered(source, buffers)?;
     Ok(Answer::Ranges(TimeRanges::new(ranges)))
@@ -149,10 +130,8 @@ pub(crate) fn seekable<S: FrameStore>(
     source: &MediaSource,
     buffers: &SourceBuffers<S>,
 ) -> Result<Answer, OutOfMemory>
-    ensures { (e : ElementState) → IsSteady (kept_engine source.now buffers.now.buffers e)
-        → IsEngineAnswer (kept_engine source.now buffers.now.buffers e) result
-        (kept_engine source.now buffers.now.buffers e)
-        (after_call [] call.Seekable) }
+    ensures { (e : ElementState) → IsEngineRead (kept_engine source.now buffers.now.buffers e)
+        result (after_call [] call.Seekable) }
 {
     Ok(Answer::Range(scenes::seekable(source, buffers)?))
 }

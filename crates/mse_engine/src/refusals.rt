@@ -226,13 +226,8 @@ pub(crate) fn call_refusal<S: FrameStore>(
             buffer_refusal(source, buffers, element, *k, &BufferCall::SetOffset(*t))
         }
         Call::SetAppendWindowStart(k, t) => {
-            buffer_refusal(
-                source,
-                buffers,
-                element,
-                *k,
-                &BufferCall::SetWindowStart(*t),
-            )
+            let set = BufferCall::SetWindowStart(*t);
+            buffer_refusal(source, buffers, element, *k, &set)
         }
         Call::SetAppendWindowEnd(k, t) => {
             buffer_refusal(source, buffers, element, *k, &BufferCall::SetWindowEnd(*t))
@@ -240,13 +235,8 @@ pub(crate) fn call_refusal<S: FrameStore>(
         Call::AppendBuffer(k, piece) => append_refusal(source, buffers, element, *k, piece, blobs),
         Call::Abort(k) => { buffer_refusal(source, buffers, element, *k, &BufferCall::Abort) }
         Call::Remove(k, start, end) => {
-            buffer_refusal(
-                source,
-                buffers,
-                element,
-                *k,
-                &BufferCall::Remove(*start, *end),
-            )
+            let remove = BufferCall::Remove(*start, *end);
+            buffer_refusal(source, buffers, element, *k, &remove)
         }
         Call::ChangeType(k, text) => {
             let change = BufferCall::ChangeType(read_type(text.as_str()));

@@ -1,6 +1,6 @@
 //! The calls on the media source (Media Source Extensions, 2.2).
 
-ghost use Rattle.std.specs.Prelude.{◌≡◌, ◌≤◌, ◌+◌, [], OnErr};
+ghost use Rattle.std.specs.Prelude.{◌≡◌, ◌≤◌, ◌+◌, []};
 ghost use Rattle.mse_base.specs.declared.ticks.Moment.{Moment};
 ghost use Rattle.mse_calls.specs.declared.answers.Answer.TheVariants.{Done};
 ghost use Rattle.mse_calls.specs.declared.calls.Call.TheVariants as call;
@@ -11,7 +11,8 @@ ghost use Rattle.mse_engine.specs.State.{core_of};
 ghost use Rattle.mse_engine.specs.Signals.{DurationChanged, after_signal, after_signals};
 ghost use Rattle.mse_engine.specs.SourceCalls.{add_effect_of, change_signals, inactive_events};
 ghost use Rattle.mse_engine.specs.Calls.{after_call, after_call_by, refused_or, no_element_effect};
-ghost use Rattle.mse_engine.specs.Standing.{IsEngineAnswer, IsSteady, kept_engine, view_of};
+ghost use Rattle.mse_engine.specs.Standing.{IsSteady, kept_engine, view_of};
+ghost use Rattle.mse_engine.specs.EngineCalls.{IsEngineCall};
 
 use crate::finish::{PLACES, event, settle};
 use crate::media_source::{MediaSource, around};
@@ -41,13 +42,8 @@ pub(crate) fn attach<S: FrameStore>(
     element: &mut Element,
 ) -> Result<Answer, OutOfMemory>
     requires steady { IsSteady (kept_engine source.old buffers.now.buffers element.old.state) }
-    ensures answered { IsEngineAnswer
-        (kept_engine source.old buffers.now.buffers element.old.state) result
-        (kept_engine source.new buffers.now.buffers element.new.state)
-        (after_call [] call.Attach) }
-    ensures steady { IsSteady (kept_engine source.new buffers.now.buffers element.new.state) }
-    ensures err { OnErr result (kept_engine source.new buffers.now.buffers element.new.state
-        ≡ kept_engine source.old buffers.now.buffers element.old.state) }
+    ensures { IsEngineCall (kept_engine source.old buffers.now.buffers element.old.state) result
+        (kept_engine source.new buffers.now.buffers element.new.state) (after_call [] call.Attach) }
 {
     element.reserve(PLACES)?;
     if let Some(name) = source.state.attach() {
@@ -66,14 +62,10 @@ fn add<S: FrameStore>(
     container: Container,
 ) -> Result<Answer, OutOfMemory>
     requires steady { IsSteady (kept_engine source.old buffers.old.buffers element.old.state) }
-    ensures answered { IsEngineAnswer
-        (kept_engine source.old buffers.old.buffers element.old.state) result
+    ensures { IsEngineCall (kept_engine source.old buffers.old.buffers element.old.state) result
         (kept_engine source.new buffers.new.buffers element.new.state)
         (λ st. after_call_by (add_effect_of (Supported container) (core_of st))
         (no_element_effect st.element) Done) }
-    ensures steady { IsSteady (kept_engine source.new buffers.new.buffers element.new.state) }
-    ensures err { OnErr result (kept_engine source.new buffers.new.buffers element.new.state
-        ≡ kept_engine source.old buffers.old.buffers element.old.state) }
 {
     element.reserve(PLACES)?;
     buffers.reserve(1)?;
@@ -96,13 +88,9 @@ pub(crate) fn add_source_buffer<S: FrameStore>(
     text: &str,
 ) -> Result<Answer, OutOfMemory>
     requires steady { IsSteady (kept_engine source.old buffers.old.buffers element.old.state) }
-    ensures answered { IsEngineAnswer
-        (kept_engine source.old buffers.old.buffers element.old.state) result
+    ensures { IsEngineCall (kept_engine source.old buffers.old.buffers element.old.state) result
         (kept_engine source.new buffers.new.buffers element.new.state)
         (after_call [] (call.AddSourceBuffer text.now)) }
-    ensures steady { IsSteady (kept_engine source.new buffers.new.buffers element.new.state) }
-    ensures err { OnErr result (kept_engine source.new buffers.new.buffers element.new.state
-        ≡ kept_engine source.old buffers.old.buffers element.old.state) }
 {
     match read_type(text) {
         TypeAnswer::Empty => Ok(Answer::Refused(Name::TypeError)),
@@ -130,13 +118,9 @@ pub(crate) fn remove_source_buffer<S: FrameStore>(
     k: u32,
 ) -> Result<Answer, OutOfMemory>
     requires steady { IsSteady (kept_engine source.old buffers.old.buffers element.old.state) }
-    ensures answered { IsEngineAnswer
-        (kept_engine source.old buffers.old.buffers element.old.state) result
+    ensures { IsEngineCall (kept_engine source.old buffers.old.buffers element.old.state) result
         (kept_engine source.new buffers.new.buffers element.new.state)
         (after_call [] (call.RemoveSourceBuffer k)) }
-    ensures steady { IsSteady (kept_engine source.new buffers.new.buffers element.new.state) }
-    ensures err { OnErr result (kept_engine source.new buffers.new.buffers element.new.state
-        ≡ kept_engine source.old buffers.old.buffers element.old.state) }
 {
     if !buffers.is_made(k) {
         return Ok(Answer::Refused(Name::NoSuchBuffer));
@@ -203,13 +187,9 @@ pub(crate) fn set_duration<S: FrameStore>(
     duration: Moment,
 ) -> Result<Answer, OutOfMemory>
     requires steady { IsSteady (kept_engine source.old buffers.now.buffers element.old.state) }
-    ensures answered { IsEngineAnswer
-        (kept_engine source.old buffers.now.buffers element.old.state) result
+    ensures { IsEngineCall (kept_engine source.old buffers.now.buffers element.old.state) result
         (kept_engine source.new buffers.now.buffers element.new.state)
         (after_call [] (call.SetDuration duration)) }
-    ensures steady { IsSteady (kept_engine source.new buffers.now.buffers element.new.state) }
-    ensures err { OnErr result (kept_engine source.new buffers.now.buffers element.new.state
-        ≡ kept_engine source.old buffers.now.buffers element.old.state) }
 {
     element.reserve(PLACES)?;
     let all = buffers.all_buffers();
@@ -230,13 +210,9 @@ pub(crate) fn end_of_stream<S: FrameStore>(
     kind: EndKind,
 ) -> Result<Answer, OutOfMemory>
     requires steady { IsSteady (kept_engine source.old buffers.now.buffers element.old.state) }
-    ensures answered { IsEngineAnswer
-        (kept_engine source.old buffers.now.buffers element.old.state) result
+    ensures { IsEngineCall (kept_engine source.old buffers.now.buffers element.old.state) result
         (kept_engine source.new buffers.now.buffers element.new.state)
         (after_call [] (call.EndOfStream kind)) }
-    ensures steady { IsSteady (kept_engine source.new buffers.now.buffers element.new.state) }
-    ensures err { OnErr result (kept_engine source.new buffers.now.buffers element.new.state
-        ≡ kept_engine source.old buffers.now.buffers element.old.state) }
 {
     element.reserve(PLACES)?;
     let all = buffers.all_buffers();
@@ -260,13 +236,9 @@ pub(crate) fn set_live<S: FrameStore>(
     end: Moment,
 ) -> Result<Answer, OutOfMemory>
     requires steady { IsSteady (kept_engine source.old buffers.now.buffers element.old.state) }
-    ensures answered { IsEngineAnswer
-        (kept_engine source.old buffers.now.buffers element.old.state) result
+    ensures { IsEngineCall (kept_engine source.old buffers.now.buffers element.old.state) result
         (kept_engine source.new buffers.now.buffers element.new.state)
         (after_call [] (call.SetLiveSeekableRange start end)) }
-    ensures steady { IsSteady (kept_engine source.new buffers.now.buffers element.new.state) }
-    ensures err { OnErr result (kept_engine source.new buffers.now.buffers element.new.state
-        ≡ kept_engine source.old buffers.now.buffers element.old.state) }
 {
     let Moment::At(start) = start else {
         return Ok(Answer::Refused(Name::TypeError));
@@ -287,13 +259,9 @@ pub(crate) fn clear_live<S: FrameStore>(
     element: &mut Element,
 ) -> Result<Answer, OutOfMemory>
     requires steady { IsSteady (kept_engine source.old buffers.now.buffers element.old.state) }
-    ensures answered { IsEngineAnswer
-        (kept_engine source.old buffers.now.buffers element.old.state) result
+    ensures { IsEngineCall (kept_engine source.old buffers.now.buffers element.old.state) result
         (kept_engine source.new buffers.now.buffers element.new.state)
         (after_call [] call.ClearLiveSeekableRange) }
-    ensures steady { IsSteady (kept_engine source.new buffers.now.buffers element.new.state) }
-    ensures err { OnErr result (kept_engine source.new buffers.now.buffers element.new.state
-        ≡ kept_engine source.old buffers.now.buffers element.old.state) }
 {
     element.reserve(PLACES)?;
     let refusal = source.state.clear_live();

@@ -1,4 +1,4 @@
-ghost use Rattle.std.specs.Prelude.{◌≡◌, ◌+◌, ◌<◌, ◌≤◌, ◌^◌, ◌≤ℤ◌, pos, nat_lt, [], ◌∷◌, ◌++◌, length, vec_capacity, Some, option_map, option_copied, IfOk, OnOk, OnErr};
+ghost use Rattle.std.specs.Prelude.{◌≡◌, ◌+◌, ◌<◌, ◌≤◌, ◌^◌, ◌≤ℤ◌, pos, nat_lt, [], ◌∷◌, ◌++◌, length, Some, option_map, option_copied, IfOk, OnOk, OnErr};
 ghost use Rattle.mse_base.specs.declared.ticks.Moment.{Moment};
 ghost use Rattle.track_store.specs.State.{state_of};
 ghost use Rattle.buffer_state.specs.State.{surroundings};
@@ -98,7 +98,10 @@ impl<S: FrameStore> SourceBuffers<S> {
         ensures len { length self.new.buffers ≡ length self.old.buffers }
         ensures spare { self.new.spare ≡ self.old.spare }
     {
-        remove_by_number(&mut self.slots, k, around)
+        let Some(slot) = self.slots.get_mut(k as usize) else {
+            return Reply::refused(Name::NoSuchBuffer, false, &around.duration);
+        };
+        remove_slot(slot, around)
     }
 
     /// Makes a call on the buffer of a number. It takes its memory first; an `Err` changes nothing.
@@ -117,7 +120,10 @@ impl<S: FrameStore> SourceBuffers<S> {
         ensures spare { self.new.spare ≡ self.old.spare }
         ensures err { OnErr result (self.new ≡ self.old) }
     {
-        call_by_number(&mut self.slots, k, call, around)
+        let Some(slot) = self.slots.get_mut(k as usize) else {
+            return Ok(Reply::refused(Name::NoSuchBuffer, false, &around.duration));
+        };
+        call_slot(slot, call, around)
     }
 
     /// The name by which [`call`](Self::call) would be refused before anything comes of it, if it
@@ -154,7 +160,10 @@ impl<S: FrameStore> SourceBuffers<S> {
         ensures spare { self.new.spare ≡ self.old.spare }
         ensures err { OnErr result (self.new ≡ self.old) }
     {
-        turn_by_number(&mut self.slots, k, around)
+        let Some(slot) = self.slots.get_mut(k as usize) else {
+            return Ok(Turned::Idle);
+        };
+        turn_slot(slot, around)
     }
 
     /// The name by which [`remove`](Self::remove) would be refused, if it would.
@@ -269,8 +278,6 @@ impl<S: FrameStore> SourceBuffers<S> {
     }
 }
 
-// ---- one slot
-
 /// Makes a call on the buffer in a slot.
 fn call_slot<S: FrameStore>(
     slot: &mut Option<Buffer<S>>,
@@ -313,62 +320,6 @@ fn turn_slot<S: FrameStore>(
 {
     match slot {
         Some(buffer) => buffer.turn(around),
-        None => Ok(Turned::Idle),
-    }
-}
-
-// ---- the slot of a number
-
-/// Ends running work of the buffer of a number, and removes the buffer.
-fn remove_by_number<S: FrameStore>(
-    slots: &mut Vec<Option<Buffer<S>>>,
-    k: u32,
-    around: &BufferContext,
-) -> Reply
-    ensures done { IsDoneInAll (removal_result k (surroundings around.now)) 0 around.now.duration
-        slots.old.items result slots.new.items }
-    ensures len { length slots.new.items ≡ length slots.old.items }
-    ensures capacity { vec_capacity slots.new ≡ vec_capacity slots.old }
-{
-    match slots.get_mut(k as usize) {
-        Some(slot) => remove_slot(slot, around),
-        None => Reply::refused(Name::NoSuchBuffer, false, &around.duration),
-    }
-}
-
-/// Makes a call on the buffer of a number.
-fn call_by_number<S: FrameStore>(
-    slots: &mut Vec<Option<Buffer<S>>>,
-    k: u32,
-    call: &BufferCall,
-    around: &BufferContext,
-) -> Result<Reply, OutOfMemory>
-    ensures done { IfOk result (λ reply. IsCallDoneInAll k (call_at around.now call.now)
-        (surroundings around.now) slots.old.items reply slots.new.items) }
-    ensures len { length slots.new.items ≡ length slots.old.items }
-    ensures capacity { vec_capacity slots.new ≡ vec_capacity slots.old }
-    ensures err { OnErr result (slots.new.items ≡ slots.old.items) }
-{
-    match slots.get_mut(k as usize) {
-        Some(slot) => call_slot(slot, call, around),
-        None => Ok(Reply::refused(Name::NoSuchBuffer, false, &around.duration)),
-    }
-}
-
-/// One step of the work that runs at the buffer of a number.
-fn turn_by_number<S: FrameStore>(
-    slots: &mut Vec<Option<Buffer<S>>>,
-    k: u32,
-    around: &BufferContext,
-) -> Result<Turned, OutOfMemory>
-    ensures done { IfOk result (λ turned. IsTurnDoneInAll k (surroundings around.now)
-        slots.old.items turned slots.new.items) }
-    ensures len { length slots.new.items ≡ length slots.old.items }
-    ensures capacity { vec_capacity slots.new ≡ vec_capacity slots.old }
-    ensures err { OnErr result (slots.new.items ≡ slots.old.items) }
-{
-    match slots.get_mut(k as usize) {
-        Some(slot) => turn_slot(slot, around),
         None => Ok(Turned::Idle),
     }
 }

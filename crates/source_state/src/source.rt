@@ -232,11 +232,7 @@ impl Source {
             Some(end) => d.at_least(end),
             None => d,
         };
-        if duration == self.duration {
-            return Changed::Same;
-        }
-        self.duration = duration;
-        Changed::To(duration)
+        self.run_duration_change(duration)
     }
 
     /// Why the duration cannot be set, before anything is done.
@@ -260,17 +256,26 @@ impl Source {
         None
     }
 
+    /// The duration change algorithm (Media Source Extensions, 2.4.6), to `d` in ticks, NaN where
+    /// there is none.
+    fn run_duration_change(&mut self, d: Moment) -> Changed
+        ensures answer { result ≡ (after_duration_change d self.old).answer }
+        ensures state { self.new ≡ (after_duration_change d self.old).state }
+    {
+        if d == self.duration {
+            return Changed::Same;
+        }
+        self.duration = d;
+        Changed::To(d)
+    }
+
     /// Changes the duration to `d`, in ticks, NaN where there is none (Media Source Extensions, 2.4.6,
     /// duration change): true exactly where it was another.
     pub fn change_duration(&mut self, d: Moment) -> bool
         ensures answer { result ≡ not (is_same_moment d self.old.duration) }
         ensures state { self.new ≡ (after_duration_change d self.old).state }
     {
-        if d == self.duration {
-            return false;
-        }
-        self.duration = d;
-        true
+        matches!(self.run_duration_change(d), Changed::To(_))
     }
 
     /// Why the source cannot be ended now (Media Source Extensions, 2.2, `endOfStream`), where a
@@ -293,12 +298,7 @@ impl Source {
         self.ready = Ready::Ended;
         match kind {
             EndKind::Plain => {
-                let duration = Moment::At(highest_end.unwrap_or(Ticks::zero()));
-                if duration == self.duration {
-                    return Changed::Same;
-                }
-                self.duration = duration;
-                Changed::To(duration)
+                self.run_duration_change(Moment::At(highest_end.unwrap_or(Ticks::zero())))
             }
             EndKind::Network | EndKind::Decode => Changed::Same,
         }

@@ -10,11 +10,11 @@ use Rattle.mse_engine.specs.Standing.{IsStep, kept_engine}
 use Rattle.mse_engine.proofs.BufferCallSteps.{refused_stays}
 use Rattle.mse_engine.proofs.source_calls.add_source_buffer.Goals as goal
 
-pub returns-in-Empty-clause-answered : goal.returns-in-Empty-clause-answered
-returns-in-Empty-clause-answered g c st h = subst (λ (t : TypeAnswer). IsStep (Refused TypeError) (kept_engine c.args.source.now c.args.buffers.now.buffers c.args.element.now.state) (after_call_by (add_effect_of t (core_of st)) (no_element_effect st.element) Done)) c.in-Empty.ensures.value (refused_stays TypeError Done (kept_engine c.args.source.now c.args.buffers.now.buffers c.args.element.now.state) st c.requires.steady.settled h)
+pub returns-in-Empty : goal.returns-in-Empty
+returns-in-Empty g c = record { answered = λ st h. (subst (λ (t : TypeAnswer). IsStep (Refused TypeError) (kept_engine c.args.source.now c.args.buffers.now.buffers c.args.element.now.state) (after_call_by (add_effect_of t (core_of st)) (no_element_effect st.element) Done)) c.in-Empty.ensures.value (refused_stays TypeError Done (kept_engine c.args.source.now c.args.buffers.now.buffers c.args.element.now.state) st c.requires.steady.settled h)); steady = c.requires.steady; err = tt }
 
-pub returns-in-Unsupported-clause-answered : goal.returns-in-Unsupported-clause-answered
-returns-in-Unsupported-clause-answered g c st h = subst (λ (t : TypeAnswer). IsStep (Refused NotSupported) (kept_engine c.args.source.now c.args.buffers.now.buffers c.args.element.now.state) (after_call_by (add_effect_of t (core_of st)) (no_element_effect st.element) Done)) c.in-Unsupported.ensures.value (refused_stays NotSupported Done (kept_engine c.args.source.now c.args.buffers.now.buffers c.args.element.now.state) st c.requires.steady.settled h)
+pub returns-in-Unsupported : goal.returns-in-Unsupported
+returns-in-Unsupported g c = record { answered = λ st h. (subst (λ (t : TypeAnswer). IsStep (Refused NotSupported) (kept_engine c.args.source.now c.args.buffers.now.buffers c.args.element.now.state) (after_call_by (add_effect_of t (core_of st)) (no_element_effect st.element) Done)) c.in-Unsupported.ensures.value (refused_stays NotSupported Done (kept_engine c.args.source.now c.args.buffers.now.buffers c.args.element.now.state) st c.requires.steady.settled h)); steady = c.requires.steady; err = tt }
 
-pub returns-in-Supported-clause-answered : goal.returns-in-Supported-clause-answered
-returns-in-Supported-clause-answered g c st h = subst (λ (t : TypeAnswer). IfOk c.add.result (λ answer. IsStep answer (kept_engine c.add.new.source c.add.new.buffers.buffers c.add.new.element.state) (after_call_by (add_effect_of t (core_of st)) (no_element_effect st.element) Done))) c.in-Supported.ensures.value (c.add.ensures.answered st h)
+pub returns-in-Supported : goal.returns-in-Supported
+returns-in-Supported g c = record { answered = λ st h. (subst (λ (t : TypeAnswer). IfOk c.add.result (λ answer. IsStep answer (kept_engine c.add.new.source c.add.new.buffers.buffers c.add.new.element.state) (after_call_by (add_effect_of t (core_of st)) (no_element_effect st.element) Done))) c.in-Supported.ensures.value (c.add.ensures.answered st h)); steady = c.add.ensures.steady; err = c.add.ensures.err }
