@@ -1,18 +1,48 @@
-ghost use Rattle.std.specs.Prelude.{◌≡◌, ◌++◌, OnOk, string_bytes};
+ghost use Rattle.std.specs.Prelude.{◌≡◌, ◌++◌, OnOk, codes, string_bytes};
+ghost use Rattle.std.specs.Fmt.{decimal};
+ghost use Rattle.mse_calls.specs.Level.{level_number};
+ghost use Rattle.event_text.specs.Words.{bool_text};
 ghost use Rattle.event_text.specs.Answers.{ready_text, element_text, state_text, refused_text, answer_text};
 
 use crate::times::{push_moment, push_range, push_ranges};
-use crate::words::bool_word;
-use mse_calls::{Answer, Name, Ready, StateView};
+use crate::words::push_decimal;
+use mse_calls::{Answer, Level, Name, Ready, StateView};
 use std::alloc::AllocError;
 
-fn ready_word(ready: Ready) -> &'static str
-    ensures { result.now ≡ ready_text ready }
+/// The words in front of the duration.
+fn source_words(ready: Ready) -> &'static str
+    ensures { result.now ≡ codes "source " ++ (ready_text ready ++ codes " duration ") }
 {
     match ready {
-        Ready::Closed => "closed",
-        Ready::Opened => "open",
-        Ready::Ended => "ended",
+        Ready::Closed => "source closed duration ",
+        Ready::Opened => "source open duration ",
+        Ready::Ended => "source ended duration ",
+    }
+}
+
+/// The words between the duration and what is told of the element.
+fn level_words(level: Level) -> &'static str
+    ensures { result.now ≡ codes " level " ++ (decimal (level_number level) ++ codes " ") }
+{
+    match level {
+        Level::Nothing => " level 0 ",
+        Level::Metadata => " level 1 ",
+        Level::Current => " level 2 ",
+        Level::Future => " level 3 ",
+        Level::Enough => " level 4 ",
+    }
+}
+
+/// The words between the position and the error's number.
+fn playing_words(paused: bool, seeking: bool) -> &'static str
+    ensures { result.now ≡ codes " paused " ++ (bool_text paused
+        ++ (codes " seeking " ++ (bool_text seeking ++ codes " error "))) }
+{
+    match (paused, seeking) {
+        (false, false) => " paused false seeking false error ",
+        (false, true) => " paused false seeking true error ",
+        (true, false) => " paused true seeking false error ",
+        (true, true) => " paused true seeking true error ",
     }
 }
 
@@ -21,25 +51,18 @@ fn push_element(text: &mut String, state: &StateView) -> Result<(), AllocError>
     ensures { OnOk result (string_bytes text.new
         ≡ string_bytes text.old ++ element_text state.now) }
 {
-    let position = state.position.get();
-    let paused = bool_word(state.paused);
-    let seeking = bool_word(state.seeking);
-    let error = state.error;
-    write!(
-        text,
-        "position {position} paused {paused} seeking {seeking} error {error}"
-    )
+    write!(text, "position {}", state.position.get())?;
+    text.push_str(playing_words(state.paused, state.seeking))?;
+    push_decimal(text, u32::from(state.error))
 }
 
 /// Appends the state of the source and of the element.
 pub fn push_state(text: &mut String, state: &StateView) -> Result<(), AllocError>
     ensures { OnOk result (string_bytes text.new ≡ string_bytes text.old ++ state_text state.now) }
 {
-    let source = ready_word(state.source);
-    let level = state.level.number();
-    write!(text, "source {source} duration ")?;
+    text.push_str(source_words(state.source))?;
     push_moment(text, state.duration)?;
-    write!(text, " level {level} ")?;
+    text.push_str(level_words(state.level))?;
     push_element(text, state)
 }
 

@@ -5,7 +5,7 @@ ghost use Rattle.event_text.specs.Times.{moment_text};
 ghost use Rattle.event_text.specs.Calls.{mode_text, end_text, type_text, append_text, call_text};
 
 use crate::times::push_moment;
-use crate::words::push_signs;
+use crate::words::{push_decimal, push_signs};
 use mse_base::Moment;
 use mse_calls::{Call, EndKind, Mode, Piece};
 use std::alloc::AllocError;
@@ -34,7 +34,9 @@ fn push_number(text: &mut String, word: &str, k: u32) -> Result<(), AllocError>
     ensures { OnOk result (string_bytes text.new
         ≡ string_bytes text.old ++ words (word.now ∷ decimal k ∷ [])) }
 {
-    write!(text, "{word} {k}")
+    text.push_str(word)?;
+    text.push_str(" ")?;
+    push_decimal(text, k)
 }
 
 /// Appends a word and a time.

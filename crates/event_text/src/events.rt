@@ -1,6 +1,7 @@
 ghost use Rattle.std.specs.Prelude.{◌≡◌, ◌++◌, OnOk, string_bytes};
 ghost use Rattle.event_text.specs.Events.{target_text, kind_text, event_line};
 
+use crate::words::push_decimal;
 use mse_calls::{Event, EventKind, Target};
 use std::alloc::AllocError;
 
@@ -11,7 +12,10 @@ fn push_target(text: &mut String, target: Target) -> Result<(), AllocError>
         Target::Source => text.push_str("source"),
         Target::SourceBuffers => text.push_str("sourcebuffers"),
         Target::ActiveSourceBuffers => text.push_str("activesourcebuffers"),
-        Target::Buffer(k) => write!(text, "buffer {k}"),
+        Target::Buffer(k) => {
+            text.push_str("buffer ")?;
+            push_decimal(text, k)
+        }
         Target::Element => text.push_str("element"),
     }
 }
@@ -51,8 +55,9 @@ pub fn kind_name(kind: EventKind) -> &'static str
 pub fn push_event(text: &mut String, event: &Event) -> Result<(), AllocError>
     ensures { OnOk result (string_bytes text.new ≡ string_bytes text.old ++ event_line event.now) }
 {
-    let kind = kind_name(event.kind);
     text.push_str("event ")?;
     push_target(text, event.target)?;
-    write!(text, " {kind}\n")
+    text.push_str(" ")?;
+    text.push_str(kind_name(event.kind))?;
+    text.push_str("\n")
 }

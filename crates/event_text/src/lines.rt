@@ -6,6 +6,7 @@ ghost use Rattle.event_text.specs.Lines.{line_text};
 use crate::answers::push_answer;
 use crate::calls::push_call;
 use crate::events::push_event;
+use crate::words::push_decimal;
 use mse_base::{OutOfMemory, Text};
 use mse_calls::{Answer, Call, Entry, Event};
 use std::alloc::{AllocError, Global};
@@ -45,7 +46,9 @@ pub fn listener_line(
         ≡ line_text (Entry.Listener number call.now answer.now)) }
 {
     let mut line = String::with_capacity(alloc, LINE_ROOM)?;
-    write!(line, "listener {number} ")?;
+    line.push_str("listener ")?;
+    push_decimal(&mut line, number)?;
+    line.push_str(" ")?;
     push_answered(&mut line, call, answer)?;
     Ok(Text::from_string(alloc, line))
 }

@@ -1,5 +1,6 @@
 ghost use Rattle.std.specs.Prelude.{◌≡◌, ◌<◌, ◌++◌, IfOk, OnOk, map, string_bytes};
-ghost use Rattle.event_text.specs.Words.{sign_of, printable_text, bool_text};
+ghost use Rattle.std.specs.Fmt.{decimal};
+ghost use Rattle.event_text.specs.Words.{sign_of, printable_text};
 
 use mse_base::{OutOfMemory, Text};
 use std::alloc::{AllocError, Global};
@@ -43,9 +44,12 @@ pub fn printable_text(alloc: Global, text: &str) -> Result<Text, OutOfMemory>
     Ok(Text::from_string(alloc, signs))
 }
 
-/// `true` or `false`.
-pub fn bool_word(value: bool) -> &'static str
-    ensures { result.now ≡ bool_text value }
+/// Appends a number in decimal: one digit as a character, and more by `write!`, which takes longer.
+pub fn push_decimal(text: &mut String, n: u32) -> Result<(), AllocError>
+    ensures { OnOk result (string_bytes text.new ≡ string_bytes text.old ++ decimal n) }
 {
-    if value { "true" } else { "false" }
+    if n < 10 {
+        return text.push(char::from(b'0' + n as u8));
+    }
+    write!(text, "{n}")
 }
