@@ -16,7 +16,7 @@ use Rattle.mse_engine.specs.Calls.{after_call}
 use Rattle.mse_engine.specs.Sound.{IsSoundEngine}
 use Rattle.mse_engine.proofs.Transitions.{goes_none, goes_then, goes_listener}
 use Rattle.listeners.specs.declared.listener.Note.{Note}
-use Rattle.listeners.specs.declared.listener.Note.TheVariants.{Heard, Made, Told}
+use Rattle.listeners.specs.declared.listener.Note.TheVariants.{Heard, Made, Told, Rested}
 use Rattle.listeners.specs.declared.event_dispatch.DispatchFault.TheVariants.{OutOfMemory, CallBudget, TaskBudget}
 use Rattle.listeners.specs.Notes.{told_note, asked_note, entry_notes, is_call_of, call_notes, call_count}
 use Rattle.listeners.specs.Dispatch.{AreCallsInTurn, IsAfterCalls, IsCallTurn, IsServed}
@@ -223,6 +223,11 @@ turn_unmade blobs event w r0 r1 r2 n0 n1 n2 call made memory s ne some c =
       | inl stays ↦ call_unmade blobs event w r0 r1 r2 n0 n1 n2 call made s ne some c.0 stays
       | inr m ↦ answer_untold blobs event w r0 r1 r2 n0 n1 n2 call made s ne c.0 m.0 m.1
     ]
+
+-- it was passed over
+pub turn_passed : (blobs : List (List ℕ)) (event : Event) (w : ℕ) (r : RunView) (n0 n1 : List Note)
+    → n1 ≡ n0 ++ Heard event ∷ Rested ∷ [] → IsServed blobs event (turn_view w r n0) (turn_view w r n1) (Ok tt)
+turn_passed blobs event w r n0 n1 is = record { entries = []; calls = makes_none blobs r; own = tt; few = omega arith; notes = is }
 
 pub turn_done : (blobs : List (List ℕ)) (event : Event) (old new : TurnView) (made : ℕ)
     → IsServing blobs event old new (record { call_count = made; next_call = None }) → IsServed blobs event old new (Ok tt)

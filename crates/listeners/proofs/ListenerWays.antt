@@ -80,6 +80,18 @@ pub heard_kept : {E : Type 0} (w0 w1 : Option Way) (r0 r1 : List Rule) (n0 n1 : 
 heard_kept w0 w1 r0 r1 n0 n1 event (Ok u) w r ok err h = rw (w, r, ok) (heard_by w0 r0 n0 event h)
 heard_kept w0 w1 r0 r1 n0 n1 event (Err e) w r ok err h = rw (w, r, err) h
 
+-- it heard an event and rested, with no call to make
+pub idle_kept : (w0 w1 : Option Way) (r0 r1 : List Rule) (n0 n1 : List Note) (event : Event) → w1 ≡ w0 → r1 ≡ r0
+    → n1 ≡ n0 ++ Heard event ∷ Rested ∷ [] → IsAnswerOf w0 r0 (n0 ++ Heard event ∷ []) None → IsByWay w0 r0 n0 → IsByWay w1 r1 n1
+idle_kept w0 w1 r0 r1 n0 n1 event w r idle by h =
+    rw (w, r, idle)
+    (subst (λ m. IsByWay w0 r0 m) (append_assoc n0 (Heard event ∷ []) (Rested ∷ []))
+    (answered_by w0 r0 (n0 ++ Heard event ∷ []) None by (heard_by w0 r0 n0 event h)))
+
+-- nothing happened to it
+pub same_kept : (w0 w1 : Option Way) (r0 r1 : List Rule) (n0 n1 : List Note) → w1 ≡ w0 → r1 ≡ r0 → n1 ≡ n0 → IsByWay w0 r0 n0 → IsByWay w1 r1 n1
+same_kept w0 w1 r0 r1 n0 n1 w r n h = rw (w, r, n) h
+
 -- it was asked, or had no memory
 pub asked_kept : {E : Type 0} (w0 w1 : Option Way) (r0 r1 : List Rule) (n0 n1 : List Note) (told : Option Answer) (result : Result (Option Call) E) → w1 ≡ w0 → r1 ≡ r0
     → IfOk result (λ call. n1 ≡ n0 ++ (told_note told ++ asked_note call)) → IfOk result (λ call. IsAnswerOf w0 r0 (n0 ++ told_note told) call) → OnErr result (n1 ≡ n0)

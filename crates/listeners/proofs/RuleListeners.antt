@@ -1,6 +1,6 @@
 -- What a listener by rules keeps, from one call to the next.
 use Rattle.std.proofs.Common.{◌≡◌, ℕ, zero, suc, ◌+◌, ◌<◌, ◌≤◌, List, [], ◌∷◌, ◌++◌, length, take, drop, get_or, ◌-◌, refl, sym, ap, ◌∙◌, arith, subst, Bor}
-use Rattle.std.specs.Prelude.{Bool, true, false, nat_lt, if◌then◌else◌, Option, Some, None, is_some}
+use Rattle.std.specs.Prelude.{Bool, true, false, nat_lt, if◌then◌else◌, Option, Some, None, is_some, IsSomeAnd}
 use Rattle.std.specs.Option.{option_copied}
 use Rattle.std.specs.List.{filter}
 use Rattle.std.proofs.lemmas.List.{drop_more, get_or_default, length-drop, take_all}
@@ -17,10 +17,12 @@ use Rattle.listeners.specs.declared.listener.Note.{Note}
 use Rattle.listeners.specs.declared.listener.Note.TheVariants.{Heard, Made, Rested}
 use Rattle.listeners.specs.Notes.{told_note, heard_of, calls_made}
 use Rattle.listeners.specs.RuleCalls.{is_answering, answering_rules, rule_calls, next_call}
-use Rattle.listeners.specs.Index.{HasIndex}
+use Rattle.listeners.specs.Events.{event_number}
+use Rattle.listeners.specs.Index.{HasIndex, places_at}
 use Rattle.listeners.specs.Coming.{no_rule, rule_at, call_at, rules_at, IsLeft, HasNextCall, AreCallsLeft, HasListenerInvariants}
 use Rattle.listeners.proofs.NoteLists.{heard_more, heard_made, rested_heard, rested_made, made_heard, made_made}
 use Rattle.listeners.proofs.HeardEvents.{answering_next, AreDutiesAfter}
+use Rattle.listeners.proofs.RuleIndex.{hears_none}
 use Rattle.listeners.proofs.CallsLeft.{none_left, made_first, more_left, one_left, again_left, over_left, next_none, next_some, answers_have, ready_begin, ready_more}
 
 pub holds_first : (rules : List Rule) → HasListenerInvariants rules [] None [] 0
@@ -51,6 +53,13 @@ holds_heard rules notes event index other due after call h e = record {
   ready = rw e.due (ready_more call (rules_at rules due) (filter (is_answering (heard_of notes) event) rules) h.ready (answers_have (heard_of notes) event rules));
   indexed = rw (heard_more notes event) e.indexed;
 }
+
+-- it is idle: no rule is on the event
+pub holds_idle : (rules : List Rule) (notes : List Note) (event : Event) (index : Option RuleIndex) (due : List ℕ) (call : ℕ)
+    → IsSomeAnd index (λ i. places_at i (event_number event) ≡ []) → HasListenerInvariants rules notes index due call → HasListenerInvariants rules (notes ++ Heard event ∷ []) index due call
+holds_idle rules notes event None due call none h = absurd none
+holds_idle rules notes event (Some index) due call none h =
+    holds_heard rules notes event (Some index) (Some index) due due call h (hears_none rules (heard_of notes) event index due none h.indexed)
 
 -- where a listener stands after the call of a rule
 abbrev pub turn_of : Rule → ℕ → ℕ → ℕ × ℕ

@@ -1,4 +1,5 @@
-ghost use Rattle.std.specs.Prelude.{◌≡◌, ◌≤◌, ◌<◌, ◌^◌, ◌++◌, ◌∷◌, [], OnOk, OnErr, IfOk, map, vec_len};
+ghost use Rattle.std.specs.Prelude.{◌≡◌, ◌≤◌, ◌<◌, ◌^◌, ◌++◌, ◌∷◌, [], None, OnOk, OnErr, IfOk, map, vec_len};
+ghost use Rattle.std.specs.Bool.{OnTrue, OnFalse};
 ghost use Rattle.std.specs.Option.{option_copied};
 ghost use Rattle.listeners.specs.declared.listener.Note.{Note};
 ghost use Rattle.listeners.specs.Notes.{told_note, asked_note};
@@ -29,6 +30,20 @@ pub enum DispatchFault {
     /// A listener answered a call, and no call was left to the listeners.
     #[error("more listener calls than are left")]
     TaskBudget,
+}
+
+/// Whether the listener has heard the event and rests, since it has no call to make.
+fn pass_over(listener: &mut Box<dyn Listener>, event: &Event) -> bool
+    ensures kind { listener.new.vtable ≡ listener.old.vtable }
+    ensures way { way listener.new ≡ way listener.old }
+    ensures rules { rules listener.new ≡ rules listener.old }
+    ensures idle { OnTrue result (notes listener.new
+        ≡ notes listener.old ++ Note.Heard event.now ∷ Note.Rested ∷ []) }
+    ensures by_way { OnTrue result (IsAnswerOf (way listener.old) (rules listener.old)
+        (notes listener.old ++ Note.Heard event.now ∷ []) None) }
+    ensures busy { OnFalse result (notes listener.new ≡ notes listener.old) }
+{
+    listener.hear_if_idle(event)
 }
 
 fn hear_one(listener: &mut Box<dyn Listener>, event: &Event) -> Result<(), OutOfMemory>
@@ -93,8 +108,9 @@ fn make_one<S: FrameStore>(
     next_call
 }
 
-/// One listener hears the event, and makes its calls.
-fn serve<S: FrameStore>(
+/// One listener hears the event, and makes its calls. It stands apart, so that passing over an idle listener stays short.
+#[inline(never)]
+fn hear_and_call<S: FrameStore>(
     engine: &mut Engine<S>,
     blobs: &Blobs,
     listener: &mut Box<dyn Listener>,
@@ -136,6 +152,34 @@ fn serve<S: FrameStore>(
         call_count += 1;
     }
     Ok(())
+}
+
+/// The turn of one listener, which is passed over where it is idle.
+fn serve<S: FrameStore>(
+    engine: &mut Engine<S>,
+    blobs: &Blobs,
+    listener: &mut Box<dyn Listener>,
+    number: u32,
+    event: &Event,
+    left: &mut u64,
+    journal: &mut Journal,
+) -> Result<(), DispatchFault>
+    ensures kind { listener.new.vtable ≡ listener.old.vtable }
+    ensures way { way listener.new ≡ way listener.old }
+    ensures by_way { IsByWay (way listener.old) (rules listener.old) (notes listener.old)
+        → IsByWay (way listener.new) (rules listener.new) (notes listener.new) }
+    ensures rules { rules listener.new ≡ rules listener.old }
+    ensures turn { IsServed blobs.now event.now
+        (turn_view number (view_of_run engine.old journal.old.entries left.old)
+        (notes listener.old))
+        (turn_view number (view_of_run engine.new journal.new.entries left.new)
+        (notes listener.new))
+        result }
+{
+    if pass_over(listener, event) {
+        return Ok(());
+    }
+    hear_and_call(engine, blobs, listener, number, event, left, journal)
 }
 
 /// Tells an event to each listener in turn. A listener that heard it is asked for calls until it has

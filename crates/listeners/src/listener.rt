@@ -1,4 +1,5 @@
-ghost use Rattle.std.specs.Prelude.{◌≡◌, ◌++◌, ◌∷◌, [], List, Option, OnOk, OnErr, IfOk};
+ghost use Rattle.std.specs.Prelude.{◌≡◌, ◌++◌, ◌∷◌, [], List, Option, None, OnOk, OnErr, IfOk};
+ghost use Rattle.std.specs.Bool.{OnTrue, OnFalse};
 ghost use Rattle.std.specs.Option.{option_copied};
 ghost use Rattle.mse_calls.specs.declared.rules.Rule.{Rule};
 ghost use Rattle.listeners.specs.declared.listener.Note.{Note};
@@ -47,6 +48,20 @@ pub trait Listener: Drop {
         ensures rules { rules self.new ≡ rules self.old }
         ensures ok { OnOk result (notes self.new ≡ notes self.old ++ Note.Heard event.now ∷ []) }
         ensures err { OnErr result (notes self.new ≡ notes self.old) };
+
+    /// Tells the listener an event and lets it rest, where it sees at once that it has no call to make: `true`. Else
+    /// `false`, and it hears nothing; any listener may answer `false`. It takes no memory.
+    fn hear_if_idle(&mut self, event: &Event) -> bool
+        ensures way { way self.new ≡ way self.old }
+        ensures rules { rules self.new ≡ rules self.old }
+        ensures idle { OnTrue result (notes self.new
+            ≡ notes self.old ++ Note.Heard event.now ∷ Note.Rested ∷ []) }
+        ensures by_way { OnTrue result (IsAnswerOf (way self.old) (rules self.old)
+            (notes self.old ++ Note.Heard event.now ∷ []) None) }
+        ensures busy { OnFalse result (notes self.new ≡ notes self.old) }
+    {
+        false
+    }
 
     /// Tells it what its last call answered, if it made one, and asks it for a call. After want of
     /// memory it was told and asked nothing. Where it tells its way, it answers what that gives.

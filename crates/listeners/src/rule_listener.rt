@@ -1,11 +1,13 @@
-ghost use Rattle.std.specs.Prelude.{◌≡◌, ◌+◌, ◌-◌, ◌^◌, ◌<◌, ◌++◌, ◌∷◌, [], List, Some, length, nat_lt, OnOk, OnErr, IfOk, if◌then◌else◌};
+ghost use Rattle.std.specs.Prelude.{◌≡◌, ◌+◌, ◌-◌, ◌^◌, ◌<◌, ◌++◌, ◌∷◌, [], List, Some, length, nat_lt, IsSomeAnd, OnOk, OnErr, IfOk, if◌then◌else◌};
+ghost use Rattle.std.specs.Bool.{OnTrue};
 ghost use Rattle.std.specs.List.{filter};
 ghost use Rattle.std.specs.Option.{option_copied};
 ghost use Rattle.mse_calls.specs.declared.events.Event.{Event};
 ghost use Rattle.mse_calls.specs.declared.rules.Rule.{Rule};
 ghost use Rattle.listeners.specs.Notes.{told_note, asked_note, heard_of, calls_made};
 ghost use Rattle.listeners.specs.RuleCalls.{is_answering, rule_calls, next_call};
-ghost use Rattle.listeners.specs.Index.{IsIndexOf, HasIndex};
+ghost use Rattle.listeners.specs.Events.{event_number};
+ghost use Rattle.listeners.specs.Index.{places_at, IsIndexOf, HasIndex};
 ghost use Rattle.listeners.specs.Coming.{rules_at, due_after};
 
 use crate::Listener;
@@ -62,6 +64,17 @@ fn take_index(
     match index.take() {
         Some(rule_index) => Ok(rule_index),
         None => RuleIndex::of(alloc, rules),
+    }
+}
+
+/// Whether the index is there, and has no rule on an event.
+fn has_no_rule_on(index: &Option<RuleIndex>, event: &Event) -> bool
+    ensures { OnTrue result (IsSomeAnd index.now (λ rule_index.
+        places_at rule_index (event_number event.now) ≡ [])) }
+{
+    match index {
+        Some(rule_index) => rule_index.places(event_number(event)).is_empty(),
+        None => false,
     }
 }
 
@@ -187,6 +200,18 @@ impl Listener for RuleListener {
         self.at = 0;
         self.history = with_remark(&self.history, Remark::Heard(*event));
         Ok(())
+    }
+
+    fn hear_if_idle(&mut self, event: &Event) -> bool {
+        if self.at < self.due.len() {
+            return false;
+        }
+        if !has_no_rule_on(&self.index, event) {
+            return false;
+        }
+        let heard = with_remark(&self.history, Remark::Heard(*event));
+        self.history = with_remark(&heard, Remark::Rested);
+        true
     }
 
     /// It answers the next call that its rules give for the events that it heard, and `None` exactly

@@ -79,10 +79,21 @@ fn boxed_listener(alloc: Global, rules: Vec<Rule>) -> Result<Box<RuleListener>, 
     Ok(listener)
 }
 
+/// The event of a rule, how many times it answers, whether it repeats, and the numbers of the buffers that it aborts.
+type RuleRow = (Event, u32, bool, &'static [u32]);
+
+fn rules_of(alloc: Global, rows: &[RuleRow]) -> Result<Vec<Rule>, OutOfMemory> {
+    let mut rules = Vec::new(alloc);
+    for (on, times, repeat, numbers) in rows {
+        rules.push(rule(alloc, *on, *times, *repeat, numbers)?)?;
+    }
+    Ok(rules)
+}
+
 /// What a listener with these rules calls on each of these events, at most six calls each.
-fn answers(alloc: Global, rules: Vec<Rule>, events: &[Event]) -> Result<String, OutOfMemory> {
+fn answers(alloc: Global, rows: &[RuleRow], events: &[Event]) -> Result<String, OutOfMemory> {
     let mut text = String::new(alloc);
-    let mut listener: Box<dyn Listener> = boxed_listener(alloc, rules)?;
+    let mut listener: Box<dyn Listener> = boxed_listener(alloc, rules_of(alloc, rows)?)?;
     for event in events {
         listener.hear(event)?;
         push_calls(&mut text, &mut listener, 6)?;
@@ -90,64 +101,73 @@ fn answers(alloc: Global, rules: Vec<Rule>, events: &[Event]) -> Result<String, 
     Ok(text)
 }
 
+/// A name, rules, events, and what is called on the events.
+type Case = (
+    &'static str,
+    &'static [RuleRow],
+    &'static [Event],
+    &'static str,
+);
+
+const CASES: [Case; 3] = [
+    (
+        "rules in their order",
+        &[
+            (OPEN, 9, false, &[1, 2]),
+            (PLAY, 9, false, &[3]),
+            (OPEN, 9, false, &[4]),
+        ],
+        &[OPEN, ENDED, PLAY, OPEN],
+        "1 2 4 | | 3 | 1 2 4 | ",
+    ),
+    (
+        "times are used up",
+        &[
+            (OPEN, 1, false, &[1]),
+            (OPEN, 2, false, &[2]),
+            (OPEN, 0, false, &[3]),
+            (PLAY, 1, false, &[4]),
+        ],
+        &[OPEN, PLAY, OPEN, PLAY, OPEN],
+        "1 2 | 4 | 2 | | | ",
+    ),
+    (
+        "a rule repeats",
+        &[
+            (PLAY, 1, true, &[]),
+            (PLAY, 1, false, &[7]),
+            (PLAY, 1, true, &[8, 9]),
+            (PLAY, 1, false, &[5]),
+        ],
+        &[OPEN, PLAY],
+        "| 7 8 9 8 9 8 ",
+    ),
+];
+
 #[test]
-fn rules_in_their_order(rt: HostRuntime) -> Result<(), Fail> {
-    let alloc = rt.alloc();
-    let rules = vec![in alloc;
-        rule(alloc, OPEN, 9, false, &[1, 2])?,
-        rule(alloc, PLAY, 9, false, &[3])?,
-        rule(alloc, OPEN, 9, false, &[4])?,
-    ]?;
-    let text = answers(alloc, rules, &[OPEN, ENDED, PLAY, OPEN])?;
-    assert_eq!(rt; text.as_str(), "1 2 4 | | 3 | 1 2 4 | ");
+fn calls_by_rules(rt: HostRuntime) -> Result<(), Fail> {
+    for (name, rows, events, wanted) in &CASES {
+        let text = answers(rt.alloc(), rows, events)?;
+        assert!(rt; text.as_str() == *wanted, "{name}: {}", text.as_str());
+    }
     Ok(())
 }
 
-#[test]
-fn times_are_used_up(rt: HostRuntime) -> Result<(), Fail> {
-    let alloc = rt.alloc();
-    let rules = vec![in alloc;
-        rule(alloc, OPEN, 1, false, &[1])?,
-        rule(alloc, OPEN, 2, false, &[2])?,
-        rule(alloc, OPEN, 0, false, &[3])?,
-        rule(alloc, PLAY, 1, false, &[4])?,
-    ]?;
-    let text = answers(alloc, rules, &[OPEN, PLAY, OPEN, PLAY, OPEN])?;
-    assert_eq!(rt; text.as_str(), "1 2 | 4 | 2 | | | ");
-    Ok(())
-}
-
-#[test]
-fn a_rule_repeats(rt: HostRuntime) -> Result<(), Fail> {
-    let alloc = rt.alloc();
-    let rules = vec![in alloc;
-        rule(alloc, PLAY, 1, true, &[])?,
-        rule(alloc, PLAY, 1, false, &[7])?,
-        rule(alloc, PLAY, 1, true, &[8, 9])?,
-        rule(alloc, PLAY, 1, false, &[5])?,
-    ]?;
-    let text = answers(alloc, rules, &[OPEN, PLAY])?;
-    assert_eq!(rt; text.as_str(), "| 7 8 9 8 9 8 ");
-    Ok(())
-}
+const HEARD_BEFORE: [RuleRow; 2] = [(OPEN, 1, false, &[1, 2]), (PLAY, 2, false, &[3])];
 
 /// Events that are heard before it is asked are answered one after the other.
 #[test]
 fn heard_before_asked(rt: HostRuntime) -> Result<(), Fail> {
     let alloc = rt.alloc();
-    let rules = vec![in alloc;
-        rule(alloc, OPEN, 1, false, &[1, 2])?,
-        rule(alloc, PLAY, 2, false, &[3])?,
-    ]?;
     let mut text = String::new(alloc);
-    let mut listener: Box<dyn Listener> = boxed_listener(alloc, rules)?;
+    let mut listener: Box<dyn Listener> = boxed_listener(alloc, rules_of(alloc, &HEARD_BEFORE)?)?;
     listener.hear(&OPEN)?;
     push_calls(&mut text, &mut listener, 1)?;
-    listener.hear(&PLAY)?;
-    listener.hear(&OPEN)?;
-    listener.hear(&PLAY)?;
+    for event in &[PLAY, OPEN, PLAY] {
+        listener.hear(event)?;
+    }
     push_calls(&mut text, &mut listener, 6)?;
-    assert_eq!(rt; text.as_str(), "1 2 3 3 | ");
+    assert!(rt; text.as_str() == "1 2 3 3 | ");
     Ok(())
 }
 
@@ -195,6 +215,36 @@ fn many_rules(rt: HostRuntime) -> Result<(), Fail> {
             kind: EventKind::UpdateEnd,
         })?;
         assert!(rt; matches!(listener.next(None)?, Some(Call::Abort(n)) if n == k));
+    }
+    Ok(())
+}
+
+/// An event, whether the listener is passed over at it, how often at most it is asked for a call then, and its notes.
+type IdleRow = (Event, bool, u32, &'static str);
+
+const PASSED_OVER: [IdleRow; 6] = [
+    (ENDED, false, 1, "| "),
+    (ENDED, true, 1, "| "),
+    (OPEN, false, 0, ""),
+    (ENDED, false, 6, "1 | "),
+    (ENDED, true, 0, ""),
+    (OPEN, false, 6, "| "),
+];
+
+/// A listener that heard an event before is passed over where nothing is due and no rule is on the event.
+#[test]
+fn passed_over(rt: HostRuntime) -> Result<(), Fail> {
+    let alloc = rt.alloc();
+    let rules = vec![in alloc; rule(alloc, OPEN, 1, false, &[1])?]?;
+    let mut listener: Box<dyn Listener> = boxed_listener(alloc, rules)?;
+    for (event, idle, most, wanted) in &PASSED_OVER {
+        let passed = listener.hear_if_idle(event);
+        if !passed {
+            listener.hear(event)?;
+        }
+        let mut text = String::new(alloc);
+        push_calls(&mut text, &mut listener, *most)?;
+        assert!(rt; passed == *idle && text.as_str() == *wanted);
     }
     Ok(())
 }

@@ -119,7 +119,7 @@ fn fire(scene: &mut DispatchScene) -> Result<Result<(), DispatchFault>, Fail> {
 /// So many events, of which each is dispatched to all.
 fn fire_all(rt: &impl Abort, scene: &mut DispatchScene, count: u32) -> Result<(), Fail> {
     for _ in 0..count {
-        assert_eq!(rt; fire(scene)?, Ok(()));
+        assert!(rt; fire(scene)? == Ok(()));
     }
     assert!(rt; scene.engine.fire().is_none());
     Ok(())
@@ -181,38 +181,131 @@ fn state_calls(alloc: Global, count: u32) -> Result<Vec<Call>, OutOfMemory> {
     Ok(calls)
 }
 
-#[test]
-fn one_listener_after_the_other(rt: HostRuntime) -> Result<(), Fail> {
-    let alloc = rt.alloc();
+/// A call of the script or of a listener.
+enum Asked {
+    Attach,
+    /// Adds a buffer.
+    Add,
+    /// Appends the first blob to the first buffer.
+    Append,
+    Buffered,
+    RemoveBuffer,
+}
+
+fn call_of(alloc: Global, asked: &Asked) -> Result<Call, OutOfMemory> {
+    match asked {
+        Asked::Attach => Ok(Call::Attach),
+        Asked::Add => add(alloc),
+        Asked::Append => Ok(Call::AppendBuffer(0, WHOLE)),
+        Asked::Buffered => Ok(Call::Buffered(0)),
+        Asked::RemoveBuffer => Ok(Call::RemoveSourceBuffer(0)),
+    }
+}
+
+fn calls_of(alloc: Global, asked: &[Asked]) -> Result<Vec<Call>, OutOfMemory> {
+    let mut calls = Vec::new(alloc);
+    for call in asked {
+        calls.push(call_of(alloc, call)?)?;
+    }
+    Ok(calls)
+}
+
+/// The event that a listener answers once, and its calls.
+type ListenerRow = (Event, &'static [Asked]);
+
+fn listeners_of(
+    alloc: Global,
+    rows: &[ListenerRow],
+) -> Result<Vec<Box<dyn Listener>>, OutOfMemory> {
     let mut listeners: Vec<Box<dyn Listener>> = Vec::new(alloc);
-    let adds = vec![in alloc; add(alloc)?]?;
-    listeners.push(answering(alloc, OPEN, false, adds)?)?;
-    let reads = vec![in alloc; Call::Buffered(0)]?;
-    listeners.push(answering(alloc, OPEN, false, reads)?)?;
-    let mut scene = new_scene(alloc, listeners, 100)?;
-    make(&mut scene, Call::Attach)?;
-    fire_all(&rt, &mut scene, 2)?;
-    assert_eq!(rt; lines(alloc, &scene)?.as_str(), ONE_AFTER_THE_OTHER);
-    assert_eq!(rt; scene.left, 98);
+    for (on, asked) in rows {
+        let calls = calls_of(alloc, asked)?;
+        listeners.push(answering(alloc, *on, false, calls)?)?;
+    }
+    Ok(listeners)
+}
+
+/// A name, listeners, the calls of the script, how many calls the listeners may make, how many events are fired, and
+/// what is printed.
+type Case = (
+    &'static str,
+    &'static [ListenerRow],
+    &'static [Asked],
+    u64,
+    u32,
+    &'static str,
+);
+
+const UPDATE_START: Event = Event {
+    target: Target::Buffer(0),
+    kind: EventKind::UpdateStart,
+};
+
+const CASES: [Case; 3] = [
+    (
+        "no listener",
+        &[],
+        &[Asked::Attach],
+        0,
+        1,
+        "call attach: done\nevent source sourceopen\n",
+    ),
+    (
+        "one listener after the other",
+        &[(OPEN, &[Asked::Add]), (OPEN, &[Asked::Buffered])],
+        &[Asked::Attach],
+        100,
+        2,
+        ONE_AFTER_THE_OTHER,
+    ),
+    (
+        "a listener removes the buffer whose event runs",
+        &[(UPDATE_START, &[Asked::RemoveBuffer, Asked::Append])],
+        &[Asked::Attach, Asked::Add, Asked::Append],
+        100,
+        6,
+        REMOVED,
+    ),
+];
+
+/// Asserts what is printed.
+fn expect_lines(
+    rt: &(impl Abort + AllocGlobal),
+    scene: &DispatchScene,
+    name: &str,
+    wanted: &str,
+) -> Result<(), Fail> {
+    let text = lines(rt.alloc(), scene)?;
+    assert!(rt; text.as_str() == wanted, "{name}: {}", text.as_str());
+    Ok(())
+}
+
+/// Asserts what is printed, and that each call of a listener is counted.
+fn run_case(rt: &(impl Abort + AllocGlobal), case: &Case) -> Result<(), Fail> {
+    let (name, listeners, script, left, events, wanted) = case;
+    let mut made = 0u64;
+    for (_, asked) in *listeners {
+        made = made.saturating_add(asked.len() as u64);
+    }
+    let mut scene = new_scene(rt.alloc(), listeners_of(rt.alloc(), listeners)?, *left)?;
+    for asked in *script {
+        make(&mut scene, call_of(rt.alloc(), asked)?)?;
+    }
+    fire_all(rt, &mut scene, *events)?;
+    expect_lines(rt, &scene, name, wanted)?;
+    assert!(rt;
+        scene.left.saturating_add(made) == *left,
+        "{name}: {} calls are left",
+        scene.left
+    );
     Ok(())
 }
 
 #[test]
-fn a_listener_removes_the_buffer_whose_event_runs(rt: HostRuntime) -> Result<(), Fail> {
-    let alloc = rt.alloc();
-    let on = Event {
-        target: Target::Buffer(0),
-        kind: EventKind::UpdateStart,
-    };
-    let calls = vec![in alloc; Call::RemoveSourceBuffer(0), Call::AppendBuffer(0, WHOLE)]?;
-    let mut listeners: Vec<Box<dyn Listener>> = Vec::new(alloc);
-    listeners.push(answering(alloc, on, false, calls)?)?;
-    let mut scene = new_scene(alloc, listeners, 100)?;
-    make(&mut scene, Call::Attach)?;
-    make(&mut scene, add(alloc)?)?;
-    make(&mut scene, Call::AppendBuffer(0, WHOLE))?;
-    fire_all(&rt, &mut scene, 6)?;
-    assert_eq!(rt; lines(alloc, &scene)?.as_str(), REMOVED);
+fn dispatches(rt: HostRuntime) -> Result<(), Fail> {
+    for case in &CASES {
+        run_case(&rt, case)?;
+    }
     Ok(())
 }
 
@@ -287,8 +380,8 @@ fn a_listener_appends_until_that_is_refused(rt: HostRuntime) -> Result<(), Fail>
     let mut scene = new_scene(alloc, listeners, 100)?;
     make(&mut scene, Call::Attach)?;
     make(&mut scene, add(alloc)?)?;
-    assert_eq!(rt; fire(&mut scene)?, Ok(()));
-    assert_eq!(rt; lines(alloc, &scene)?.as_str(), APPENDED);
+    assert!(rt; fire(&mut scene)? == Ok(()));
+    assert!(rt; lines(alloc, &scene)?.as_str() == APPENDED);
     Ok(())
 }
 
@@ -316,21 +409,29 @@ fn outcome(
     Ok((ended, made))
 }
 
+/// How many calls are left, how many a listener makes, whether again and again, what comes of it, and how many it made.
 /// Of both limits that are reached at once, that of the listener is told.
+const LIMITS: [(u64, u32, bool, Result<(), DispatchFault>, u64); 9] = [
+    (5000, 1000, false, Ok(()), 1000),
+    (1000, 1000, false, Ok(()), 1000),
+    (5000, 1001, false, Err(DispatchFault::CallBudget(0)), 1000),
+    (1000, 1001, false, Err(DispatchFault::CallBudget(0)), 1000),
+    (5000, 1, true, Err(DispatchFault::CallBudget(0)), 1000),
+    (999, 1000, false, Err(DispatchFault::TaskBudget), 999),
+    (5, 1, true, Err(DispatchFault::TaskBudget), 5),
+    (0, 1, false, Err(DispatchFault::TaskBudget), 0),
+    (0, 0, true, Ok(()), 0),
+];
+
 #[test]
 fn limits_of_calls(rt: HostRuntime) -> Result<(), Fail> {
-    let alloc = rt.alloc();
-    let many = Err(DispatchFault::CallBudget(0));
-    let spent = Err(DispatchFault::TaskBudget);
-    assert_eq!(rt; outcome(alloc, 5000, 1000, false)?, (Ok(()), 1000));
-    assert_eq!(rt; outcome(alloc, 1000, 1000, false)?, (Ok(()), 1000));
-    assert_eq!(rt; outcome(alloc, 5000, 1001, false)?, (many, 1000));
-    assert_eq!(rt; outcome(alloc, 1000, 1001, false)?, (many, 1000));
-    assert_eq!(rt; outcome(alloc, 5000, 1, true)?, (many, 1000));
-    assert_eq!(rt; outcome(alloc, 999, 1000, false)?, (spent, 999));
-    assert_eq!(rt; outcome(alloc, 5, 1, true)?, (spent, 5));
-    assert_eq!(rt; outcome(alloc, 0, 1, false)?, (spent, 0));
-    assert_eq!(rt; outcome(alloc, 0, 0, true)?, (Ok(()), 0));
+    for (left, count, repeat, ended, made) in &LIMITS {
+        let (found, calls) = outcome(rt.alloc(), *left, *count, *repeat)?;
+        assert!(rt;
+            found == *ended && calls == *made,
+            "{count} calls of {left}"
+        );
+    }
     Ok(())
 }
 
@@ -345,26 +446,13 @@ fn the_second_listener_spends_the_last_call(rt: HostRuntime) -> Result<(), Fail>
     listeners.push(answering(alloc, OPEN, true, one)?)?;
     let mut scene = new_scene(alloc, listeners, 5)?;
     make(&mut scene, Call::Attach)?;
-    assert_eq!(rt; fire(&mut scene)?, Err(DispatchFault::TaskBudget));
+    assert!(rt; fire(&mut scene)? == Err(DispatchFault::TaskBudget));
     let mut wanted = String::new(alloc);
     wanted.push_str("call attach: done\nevent source sourceopen\n")?;
     for number in [0u32, 0, 0, 1, 1] {
         write!(wanted, "listener {number} {STATE}")?;
     }
-    assert_eq!(rt; lines(alloc, &scene)?.as_str(), wanted.as_str());
-    assert_eq!(rt; scene.left, 0);
-    Ok(())
-}
-
-#[test]
-fn no_listener(rt: HostRuntime) -> Result<(), Fail> {
-    let alloc = rt.alloc();
-    let mut scene = new_scene(alloc, Vec::new(alloc), 0)?;
-    make(&mut scene, Call::Attach)?;
-    fire_all(&rt, &mut scene, 1)?;
-    assert_eq!(rt;
-        lines(alloc, &scene)?.as_str(),
-        "call attach: done\nevent source sourceopen\n"
-    );
+    assert!(rt; lines(alloc, &scene)?.as_str() == wanted.as_str());
+    assert!(rt; scene.left == 0);
     Ok(())
 }

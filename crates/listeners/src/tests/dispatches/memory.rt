@@ -141,9 +141,9 @@ fn check_alike(
 ) -> Result<(), Fail> {
     let this = scene_text(alloc, scene)?;
     let that = scene_text(alloc, other)?;
-    assert_eq!(rt; this.as_str(), that.as_str());
+    assert!(rt; this.as_str() == that.as_str());
     for _ in 0..10 {
-        assert_eq!(rt; scene.engine.fire(), other.engine.fire());
+        assert!(rt; scene.engine.fire() == other.engine.fire());
     }
     Ok(())
 }
@@ -156,11 +156,11 @@ fn cut_anywhere(rt: HostRuntime) -> Result<(), Fail> {
     let text = text(alloc, &scene)?;
     assert!(rt; DONE.starts_with(text.as_str()));
     match ended {
-        Ok(()) => assert_eq!(rt; text.as_str(), DONE),
-        Err(fault) => assert_eq!(rt; fault, DispatchFault::OutOfMemory),
+        Ok(()) => assert!(rt; text.as_str() == DONE),
+        Err(fault) => assert!(rt; fault == DispatchFault::OutOfMemory),
     }
     let made = scene.journal.len().saturating_sub(2);
-    assert_eq!(rt; scene.left.saturating_add(made as u64), LIMIT);
+    assert!(rt; scene.left.saturating_add(made as u64) == LIMIT);
     let mut other = replay(alloc, made)?;
     check_alike(&rt, alloc, &mut scene, &mut other)
 }

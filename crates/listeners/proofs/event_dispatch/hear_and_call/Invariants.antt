@@ -2,7 +2,7 @@ use Rattle.std.proofs.Common.{◌≡◌, ◌-◌}
 use Rattle.listeners.specs.Ways.{IsByWay}
 use Rattle.listeners.specs.Views.{turn_view, view_of_run}
 use Rattle.listeners.proofs.ListenerTurns.{IsServing}
-use Rattle.listeners.proofs.event_dispatch.serve.Given as goal
+use Rattle.listeners.proofs.event_dispatch.hear_and_call.Given as goal
 
 abbrev pub invariant-loop-next_call : goal.invariant-loop-next_call
 invariant-loop-next_call g l = record {
