@@ -94,7 +94,7 @@ told_file files request task after names told (TaskBudget limit) fails reaches p
 -- ---- of a library that tells no files
 
 -- what it may have been asked for, where nothing came of it
-abbrev no_request : List (List ℕ) → End → Request
+abbrev pub no_request : List (List ℕ) → End → Request
 no_request names end = record { files = λ name. None; names = names; task = Err end }
 
 -- Nothing is run for an end that needs no file: memory was wanting, a file is not there, or the library failed.
@@ -128,7 +128,7 @@ file_fails : (files : Table) (name : List ℕ) (command : Command) (end : End) �
 file_fails files name command end e = rw e refl
 
 -- what is asked for by a command that appends a file
-file_request_is : (files : Table) (name : List ℕ) (command : Command) → IsFileCommand command → file_request files name command ≡ request_of files name (Some command)
+pub file_request_is : (files : Table) (name : List ℕ) (command : Command) → IsFileCommand command → file_request files name command ≡ request_of files name (Some command)
 file_request_is files name Ranges f = refl
 file_request_is files name (Pieces count) f = refl
 file_request_is files name (Make count) f = refl

@@ -4,6 +4,7 @@ pub mod Pieces
 pub mod FileAppends
 pub mod FileProgress
 pub mod DoneTasks
+pub mod FailedLoads
 pub mod PlayedScripts
 pub mod ShownFiles
 pub mod RunEnds

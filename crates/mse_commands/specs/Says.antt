@@ -1,9 +1,10 @@
 -- What is said of an end, and the status that comes of it.
-use Rattle.std.specs.Prelude.{◌≡◌, ◌⊎◌, [], ◌∷◌}
-use Rattle.mse_outside.specs.Outside.{SinkView}
+use Rattle.std.specs.Prelude.{◌≡◌, ◌⊎◌, ℕ, List, [], ◌∷◌}
+use Rattle.mse_outside.specs.declared.library.Loaded.{Loaded}
+use Rattle.mse_outside.specs.Outside.{IsFailedLoad, SinkView}
 use Rattle.script_run.specs.Writes.{IsWritten, IsFrontWritten}
 use Rattle.mse_commands.specs.declared.ending.End.{End}
-use Rattle.mse_commands.specs.declared.ending.End.TheVariants.{Memory, Write}
+use Rattle.mse_commands.specs.declared.ending.End.TheVariants.{Memory, Write, Read}
 use Rattle.mse_commands.specs.declared.ending.Status.{Status}
 use Rattle.mse_commands.specs.declared.ending.Status.TheVariants as status
 use Rattle.mse_commands.specs.Endings.{error_line, status_of}
@@ -26,3 +27,10 @@ abbrev pub IsEndSaid : End → SinkView → SinkView → Status → Type 0
 IsEndSaid Memory old new said = (said ≡ status.Memory) × (new ≡ old)
 IsEndSaid Write old new said = (said ≡ status.Write) × (new ≡ old)
 IsEndSaid other old new said = IsLineSaid other old new said
+
+-- The line that was written names, of the files of these names, the one whose load failed.
+pub record IsFailedLoadSaid {L : Type 0} (load_gives : L → List ℕ → Loaded → L → Type 0)
+    (names : List (List ℕ)) (library : L × L) (old new : SinkView) : Type 0 where
+  pub name : List ℕ
+  pub failed : IsFailedLoad load_gives names name library.0 library.1
+  pub wrote : IsWritten (error_line (Read name) ∷ []) old new

@@ -9,7 +9,7 @@ ghost use Rattle.mse_calls.specs.declared.rules.Rule.{Rule};
 ghost use Rattle.mse_engine.specs.State.{State};
 ghost use Rattle.mse_engine.specs.Standing.{Stands};
 ghost use Rattle.mse_engine.specs.Views.{view_in};
-ghost use Rattle.mse_outside.specs.Outside.{HasRisen};
+ghost use Rattle.mse_outside.specs.Outside.{HasRisen, IsFailedLoad};
 ghost use Rattle.script_run.specs.RunStates.{printed_run, run_at};
 ghost use Rattle.script_run.specs.Text.{lines_in};
 ghost use Rattle.script_run.specs.Writes.{IsWritten, IsFrontWritten};
@@ -123,6 +123,8 @@ fn file_for<L: Library>(
     ensures no_fewer_faults { L.faults library.old ≤ L.faults library.new }
     ensures failures_told { ¬ IsErrAnd result IsEndOfFailedLoad
         → L.faults library.new ≡ L.faults library.old }
+    ensures failed_load { (other : List ℕ) → IsErrOf result (End.Read other)
+        → IsFailedLoad L.load_gives (files_by name.now command.now) other library.old library.new }
 {
     match *command {
         Command::Ranges | Command::Pieces(_) | Command::Feed(_) | Command::Play | Command::Remux =>
@@ -298,6 +300,9 @@ fn run_file<S: FrameStore, L: Library, K: Sink>(
         → HasRisen (L.faults library.old) (L.faults library.new) }
     ensures failed_loads_told { ¬ IsErrAnd result IsEndOfFailedLoad
         → L.faults library.new ≡ L.faults library.old }
+    ensures failed_load { (other : List ℕ) → IsErrOf result (End.Read other)
+        → HasRequestOfCommand (L.table library.old) name.now (Some command) (λ request.
+        IsFailedLoad L.load_gives request.names other library.old library.new) }
 {
     let file = match file_for(alloc, library, &command, name) {
         Ok(file) => file,
@@ -353,6 +358,9 @@ fn run_script<S: FrameStore, L: Library, K: Sink>(
         → HasRisen (L.faults library.old) (L.faults library.new) }
     ensures failed_loads_told { ¬ IsErrAnd result IsEndOfFailedLoad
         → L.faults library.new ≡ L.faults library.old }
+    ensures failed_load { (other : List ℕ) → IsErrOf result (End.Read other)
+        → HasRequestOfCommand (L.table library.old) name.now (Some Command.Play) (λ request.
+        IsFailedLoad L.load_gives request.names other library.old library.new) }
 {
     let script = match load_script(alloc, library, name) {
         Ok(script) => script,
@@ -404,6 +412,9 @@ fn run_command<S: FrameStore, L: Library, K: Sink>(
         → HasRisen (L.faults library.old) (L.faults library.new) }
     ensures failed_loads_told { ¬ IsErrAnd result IsEndOfFailedLoad
         → L.faults library.new ≡ L.faults library.old }
+    ensures failed_load { (other : List ℕ) → IsErrOf result (End.Read other)
+        → HasRequestOfCommand (L.table library.old) name.now (Some command) (λ request.
+        IsFailedLoad L.load_gives request.names other library.old library.new) }
 {
     match command {
         Command::Play => run_script(alloc, name, library, sink, listeners, engine, journal),
@@ -448,6 +459,9 @@ pub fn work<S: FrameStore, L: Library, K: Sink>(
         → HasRisen (L.faults library.old) (L.faults library.new) }
     ensures failed_loads_told { ¬ IsErrAnd result IsEndOfFailedLoad
         → L.faults library.new ≡ L.faults library.old }
+    ensures failed_load { (other : List ℕ) → IsErrOf result (End.Read other)
+        → HasRequestOfWords (L.table library.old) (map string_bytes words.now) (λ request.
+        IsFailedLoad L.load_gives request.names other library.old library.new) }
 {
     let name = file_name(words);
     match read_command(words) {

@@ -1,6 +1,7 @@
 //! Files, scripts and blobs of the library.
 
-ghost use Rattle.std.specs.Prelude.{◌≡◌, ◌≤◌, ◌⊎◌, ◌∷◌, [], length, Ok, IfSome, IfOk, IfErr, IsErrAnd};
+ghost use Rattle.std.specs.Prelude.{◌≡◌, ◌≤◌, ◌⊎◌, ◌∷◌, ℕ, List, [], length, Ok, IfSome, IfOk, IfErr, OnOk, IsErrAnd, IsErrOf};
+ghost use Rattle.mse_outside.specs.Outside.{AreLoaded, IsFailedLoad};
 ghost use Rattle.mse_commands.specs.Requests.{IsReadOf, blob_bytes, blobs_bytes, blob_file_names, file_bytes, script_of_file};
 ghost use Rattle.mse_commands.specs.Loads.{IsEndOfFailedLoad, IsLoadEnd, IsScriptEnd, failures};
 
@@ -45,6 +46,9 @@ pub fn load<L: Library>(alloc: Global, library: &mut L, name: &str) -> Result<Ve
     ensures no_fewer_faults { L.faults library.old ≤ L.faults library.new }
     ensures failures_told { ¬ IsErrAnd result IsEndOfFailedLoad
         → L.faults library.new ≡ L.faults library.old }
+    ensures loads { OnOk result (AreLoaded L.load_gives (name.now ∷ []) library.old library.new) }
+    ensures failed_load { (other : List ℕ) → IsErrOf result (End.Read other)
+        → IsFailedLoad L.load_gives (name.now ∷ []) other library.old library.new }
 {
     let mut bytes = Vec::new(alloc);
     match library.load(name, &mut bytes) {
@@ -68,6 +72,9 @@ pub fn load_script<L: Library>(alloc: Global, library: &mut L, name: &str) -> Re
     ensures no_fewer_faults { L.faults library.old ≤ L.faults library.new }
     ensures failures_told { ¬ IsErrAnd result IsEndOfFailedLoad
         → L.faults library.new ≡ L.faults library.old }
+    ensures loads { OnOk result (AreLoaded L.load_gives (name.now ∷ []) library.old library.new) }
+    ensures failed_load { (other : List ℕ) → IsErrOf result (End.Read other)
+        → IsFailedLoad L.load_gives (name.now ∷ []) other library.old library.new }
 {
     let bytes = match load(alloc, library, name) {
         Ok(bytes) => bytes,
@@ -91,6 +98,11 @@ fn load_blob<L: Library>(alloc: Global, library: &mut L, text: &BlobText) -> Res
     ensures no_fewer_faults { L.faults library.old ≤ L.faults library.new }
     ensures failures_told { ¬ IsErrAnd result IsEndOfFailedLoad
         → L.faults library.new ≡ L.faults library.old }
+    ensures loads { OnOk result (AreLoaded L.load_gives (blob_file_names (text.now ∷ []))
+        library.old library.new) }
+    ensures failed_load { (other : List ℕ) → IsErrOf result (End.Read other)
+        → IsFailedLoad L.load_gives (blob_file_names (text.now ∷ [])) other
+        library.old library.new }
 {
     match text {
         BlobText::File(name) => match load(alloc, library, name.as_str()) {
@@ -126,6 +138,10 @@ pub fn load_blobs<L: Library>(
     ensures no_fewer_faults { L.faults library.old ≤ L.faults library.new }
     ensures failures_told { ¬ IsErrAnd result IsEndOfFailedLoad
         → L.faults library.new ≡ L.faults library.old }
+    ensures loads { OnOk result (AreLoaded L.load_gives (blob_file_names texts.now)
+        library.old library.new) }
+    ensures failed_load { (other : List ℕ) → IsErrOf result (End.Read other)
+        → IsFailedLoad L.load_gives (blob_file_names texts.now) other library.old library.new }
 {
     let mut blobs = Blobs::new(alloc);
     for text in texts {

@@ -3,7 +3,7 @@
 ghost use Rattle.std.specs.Prelude.{◌≡◌, ◌≤◌, ℕ, List, [], ◌∷◌, None, Some, IfOk, OnOk, OnErr, IsErrAnd, IsErrOf, is_err};
 ghost use Rattle.listeners.specs.declared.listener.Note.{Note};
 ghost use Rattle.mse_calls.specs.declared.rules.Rule.{Rule};
-ghost use Rattle.mse_outside.specs.Outside.{HasRisen};
+ghost use Rattle.mse_outside.specs.Outside.{HasRisen, IsFailedLoad};
 ghost use Rattle.remux.specs.Pieces.{pieces_of_file};
 ghost use Rattle.script_run.specs.Writes.{IsWritten, IsFrontWritten};
 ghost use Rattle.mse_commands.specs.Loads.{IsEndOfFailedLoad};
@@ -133,6 +133,9 @@ pub fn run_remux<L: Library, K: Sink>(
         → HasRisen (L.faults library.old) (L.faults library.new) }
     ensures failed_loads_told { ¬ IsErrAnd result IsEndOfFailedLoad
         → L.faults library.new ≡ L.faults library.old }
+    ensures failed_load { (other : List ℕ) → IsErrOf result (End.Read other)
+        → HasRequestOfCommand (L.table library.old) name.now (Some Command.Remux) (λ request.
+        IsFailedLoad L.load_gives request.names other library.old library.new) }
 {
     let file = match load(alloc, library, name) {
         Ok(file) => file,

@@ -11,7 +11,7 @@ ghost use Rattle.mse_commands.specs.Ends.{IsJournalBy, IsOutputBy};
 ghost use Rattle.mse_commands.specs.Loads.{failures};
 ghost use Rattle.mse_commands.specs.Outcomes.{IsEndOfRun, outcome_at};
 ghost use Rattle.mse_commands.specs.Program.{script_played, program_of};
-ghost use Rattle.mse_commands.specs.Says.{IsEndSaid, IsLineSaid};
+ghost use Rattle.mse_commands.specs.Says.{IsEndSaid, IsFailedLoadSaid, IsLineSaid};
 ghost use Rattle.mse_commands.specs.Words.{command_of};
 
 use crate::commands::work;
@@ -76,7 +76,8 @@ fn say<K: Sink>(alloc: Global, sink: &mut K, end: &End) -> Status
 /// or there is no memory, and a front of that is written.
 ///
 /// A failed put is told by the status `Write`. A failed load is told by `Read`, unless memory is
-/// wanting for that line, or the sink fails to take it.
+/// wanting for that line, or the sink fails to take it. The line names the file whose load failed:
+/// the loads of all files before it were done.
 pub fn run<S: FrameStore, L: Library, K: Sink>(
     alloc: Global,
     words: &[String],
@@ -127,6 +128,10 @@ pub fn run<S: FrameStore, L: Library, K: Sink>(
     ensures failed_loads_told { result ≢ Status.Read → result ≢ Status.Memory
         → result ≢ Status.Write → L.faults library.new ≡ L.faults library.old }
     ensures failed_puts_told { result ≢ Status.Write → K.faults sink.new ≡ K.faults sink.old }
+    ensures failed_load { result ≡ Status.Read
+        → HasRequestOfWords (L.table library.old) (map string_bytes words.now) (λ request.
+        IsFailedLoadSaid L.load_gives request.names (library.old, library.new)
+        (K.written sink.old) (K.written sink.new)) }
 {
     match work(alloc, words, library, sink, listeners, engine, journal) {
         Ok(false) => Status::Ok,

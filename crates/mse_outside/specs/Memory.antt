@@ -1,5 +1,5 @@
 -- The library and the sink in memory.
-use Rattle.std.specs.Prelude.{ℕ, List, [], ◌∷◌, ◌++◌, Option, Some, None, ◌==◌, if◌then◌else◌, bytes_eq, take}
+use Rattle.std.specs.Prelude.{◌≡◌, ◌≢◌, ◌↔◌, ℕ, List, [], ◌∷◌, ◌++◌, Option, Some, None, IsSome, Contains, ◌==◌, if◌then◌else◌, bytes_eq, take}
 use Rattle.mse_outside.specs.Count.{next_count}
 use Rattle.mse_outside.specs.Outside.{Table}
 use Rattle.mse_outside.specs.declared.library.Loaded.{Loaded}
@@ -50,6 +50,22 @@ library_after s LoadDone = record s { calls = next_count s.calls }
 library_after s NoFile = record s { calls = next_count s.calls }
 library_after s LoadFailed = record s { calls = next_count s.calls; faults = next_count s.faults }
 library_after s LoadOutOfMemory = record s { calls = next_count s.calls }
+
+-- A load of this name with this answer: it failed just where its number is one of those that fail. `NoFile` comes only
+-- where there is no such file, and `Done` only where there is one.
+pub record IsMemoryLoad (old : LibraryState) (name : List ℕ) (answer : Loaded)
+    (new : LibraryState) : Type 0 where
+  pub state : new ≡ library_after old answer
+  pub failed : (answer ≡ LoadFailed) ↔ Contains old.failing (next_count old.calls)
+  pub missing : answer ≡ NoFile → table_of old.files name ≡ None
+  pub found : answer ≡ LoadDone → IsSome (table_of old.files name)
+
+-- A load of this name with this answer, where no load fails.
+pub record IsSureLoad (old : Files) (name : List ℕ) (answer : Loaded) (new : Files) : Type 0 where
+  pub state : new ≡ old
+  pub sure : answer ≢ LoadFailed
+  pub missing : answer ≡ NoFile → table_of old name ≡ None
+  pub found : answer ≡ LoadDone → IsSome (table_of old name)
 
 -- how many bytes the put of this number appends, where it fails: the first pair of that number says it
 abbrev pub failed_len_at : List (ℕ × ℕ) → ℕ → Option ℕ

@@ -35,6 +35,24 @@ IsLoadEffect file old new NoFile = file ≡ None
 IsLoadEffect file old new LoadFailed = Unit {0}
 IsLoadEffect file old new LoadOutOfMemory = Unit {0}
 
+-- The files of these names were loaded, one after the other: `load_gives` tells of each load the library before it, the
+-- name, the answer, and the library behind it.
+abbrev pub AreLoaded : {L : Type 0} → (L → List ℕ → Loaded → L → Type 0) → List (List ℕ) → L → L
+    → Type 0
+AreLoaded load_gives [] old new = new ≡ old
+AreLoaded {L} load_gives (name ∷ names) old new =
+    (middle : L) × load_gives old name LoadDone middle × AreLoaded load_gives names middle new
+
+-- The files of these names were loaded in order up to the one called `name`, whose load failed.
+pub record IsFailedLoad {L : Type 0} (load_gives : L → List ℕ → Loaded → L → Type 0)
+    (names : List (List ℕ)) (name : List ℕ) (old new : L) : Type 0 where
+  pub before : List (List ℕ)
+  pub after : List (List ℕ)
+  pub names_are : names ≡ before ++ name ∷ after
+  pub middle : L
+  pub loaded : AreLoaded load_gives before old middle
+  pub failed : load_gives middle name LoadFailed new
+
 -- What a sink tells of what it was given: the bytes that it appended, and the bytes that each put handed over, in order.
 pub record SinkView : Type 0 where
   pub bytes : Option (List ℕ)

@@ -3,6 +3,7 @@ use Rattle.std.specs.Prelude.{vec_len}
 use Rattle.run_journal.specs.JournalView.{JournalView}
 use Rattle.mse_commands.proofs.ReadScripts.{steps_few}
 use Rattle.mse_commands.proofs.DoneTasks.{blobs_not_loaded, script_not_loaded, script_works}
+use Rattle.mse_commands.proofs.FailedLoads.{blob_failed, script_failed}
 use Rattle.listeners.proofs.ListenerWays.{unheard_by_way}
 use Rattle.mse_commands.proofs.commands.run_script.Goals as goal
 
@@ -38,3 +39,13 @@ returns-in-Err-clause-by_way g c = unheard_by_way _ _ _ _ c.requires.no_notes
 
 pub returns-in-Err-load_blobs-clause-by_way : goal.returns-in-Err-load_blobs-clause-by_way
 returns-in-Err-load_blobs-clause-by_way g c = unheard_by_way _ _ _ _ c.requires.no_notes
+
+pub returns-in-Err-clause-failed_load : goal.returns-in-Err-clause-failed_load
+returns-in-Err-clause-failed_load g c = λ other e.
+    script_failed g.L.Library.load_gives (g.L.Library.table c.args.library.now) c.args.name.now other c.args.library.now c.load_script.new.library (c.in-Err.ensures.failed_load other (cc (e)))
+
+pub returns-in-Err-load_blobs-clause-failed_load : goal.returns-in-Err-load_blobs-clause-failed_load
+returns-in-Err-load_blobs-clause-failed_load g c = λ other e.
+    let failed = rw c.as_slice.ensures at c.in-Err-load_blobs.ensures.failed_load other (cc (e)) in
+    blob_failed g.L.Library.load_gives (g.L.Library.table c.args.library.now) c.args.name.now c.in-Ok.script other c.args.library.now c.load_script.new.library c.load_blobs.new.library
+    c.in-Ok.ensures.ok c.in-Ok.ensures.loads failed

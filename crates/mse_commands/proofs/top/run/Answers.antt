@@ -2,6 +2,7 @@ use Rattle.std.proofs.Common.{map, string_bytes}
 use Rattle.std.specs.Prelude.{vec_len}
 use Rattle.mse_commands.specs.declared.ending.Status.TheVariants as status
 use Rattle.mse_commands.proofs.CompleteRuns.{complete_by, cuts_by}
+use Rattle.mse_commands.proofs.FailedLoads.{failed_load_said}
 use Rattle.mse_commands.proofs.ProgramRuns.{journal_by, output_by, ways_told}
 use Rattle.mse_commands.proofs.RunEnds.{broken_at, loads_told, put_failed, puts_told, said_by, whole_by}
 use Rattle.mse_commands.proofs.top.run.Goals as goal
@@ -99,3 +100,8 @@ returns-in-Err-clause-program_journal g c =
     journal_by (g.L.Library.table c.args.library.now) (map string_bytes c.args.words.now) (vec_len c.args.listeners.now) _ (g.K.Sink.faults c.args.sink.now) _ c.say.result _ ends
     (put_failed c.in-Err.end c.say.result _ _ _ c.say.ensures.write c.in-Err.ensures.write c.in-Err.ensures.no_fewer_faults c.say.ensures.no_fewer_faults) c.requires.no_notes
     (ways_told _ _ _ (vec_len c.args.listeners.now) c.args.listeners.now.items _ c.args.listeners.now.ok.0 c.in-Err.ensures.ways c.in-Err.ensures.by_way)
+
+pub returns-in-Err-clause-failed_load : goal.returns-in-Err-clause-failed_load
+returns-in-Err-clause-failed_load g c =
+    failed_load_said g.L.Library.load_gives (g.L.Library.table c.args.library.now) (map string_bytes c.args.words.now) (vec_len c.args.listeners.now) _ c.in-Err.end c.args.library.now
+    c.work.new.library (g.K.Sink.written c.say.new.sink) c.say.result c.in-Err.ensures.works c.in-Err.ensures.failed_load c.say.ensures.says

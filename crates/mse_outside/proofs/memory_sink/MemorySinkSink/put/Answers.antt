@@ -4,8 +4,8 @@ use Rattle.std.proofs.lemmas.List.{take-append-drop}
 use Rattle.mse_outside.proofs.memory_sink.MemorySinkSink.put.Goals as goal
 
 -- the bytes are what was appended, and the rest
-pub returns-in-Ok-keep_put-clause-told : goal.returns-in-Ok-keep_put-clause-told
-returns-in-Ok-keep_put-clause-told c =
+pub returns-in-Ok-clause-told : goal.returns-in-Ok-clause-told
+returns-in-Ok-clause-told c =
     let count = c.in-Some.count in
     let bytes = c.args.bytes.now in
     record {
