@@ -1,18 +1,11 @@
 //! A run, and what it prints.
 
-ghost use Rattle.std.specs.Prelude.{◌≡◌, ◌<◌, ◌^◌, ℕ, [], IfOk, map, vec_len};
-ghost use Rattle.listeners.specs.Dispatch.{notes_at};
-
 use crate::files::CaseFile;
 use crate::library::CaseLibrary;
 use anyhow::anyhow;
-use listeners::{Listener, RuleListener};
 use mse_base::OutOfMemory;
-use mse_commands::run;
-use mse_engine::Engine;
 use mse_outside::MemorySink;
-use run_journal::Journal;
-use script_run::add_listener;
+use rule_run::{LISTENERS, run_by_rules};
 use std::alloc::Global;
 use track_index::IndexStore;
 use track_store::{FrameStore, ListStore};
@@ -31,7 +24,7 @@ pub enum Store {
 pub struct Setting<'a> {
     pub files: &'a [CaseFile],
     pub store: Store,
-    /// Whether there are listeners.
+    /// Whether there are listeners, as many as the program has.
     pub is_heard: bool,
     /// A file that has other bytes than in the folder, and these.
     pub changed: Option<(&'a str, &'a [u8])>,
@@ -62,13 +55,6 @@ pub struct Printed {
     pub sink: MemorySink,
 }
 
-/// A listener by rules that has heard nothing.
-fn listener(alloc: Global) -> Result<Box<RuleListener>, OutOfMemory>
-    ensures { IfOk result (λ b. ⟦<RuleListener as Listener>⟧.notes b.value ≡ []) }
-{
-    Ok(Box::new(alloc, RuleListener::new(alloc))?)
-}
-
 /// The library of a setting.
 fn library<'a>(setting: &Setting<'a>) -> CaseLibrary<'a> {
     CaseLibrary {
@@ -80,68 +66,25 @@ fn library<'a>(setting: &Setting<'a>) -> CaseLibrary<'a> {
     }
 }
 
-/// Runs the words with coded frames in a store of this type, and with these listeners, which heard nothing.
-fn run_with<S: FrameStore>(
+/// Runs the words with coded frames in a store of this type.
+fn run_over<S: FrameStore>(
     alloc: Global,
     words: &[String],
     setting: &Setting<'_>,
-    listeners: &mut Vec<Box<dyn Listener>>,
-) -> Result<Printed, OutOfMemory>
-    requires listeners { vec_len listeners.old < 2 ^ 32 }
-    requires no_notes { (w : ℕ) → notes_at (map (λ b. notes b) listeners.old.items) w ≡ [] }
-{
+) -> Result<Printed, OutOfMemory> {
+    let count = if setting.is_heard { LISTENERS } else { 0 };
     let mut sink = MemorySink::new(alloc, vec![in alloc; setting.failing_put]?);
-    let mut engine: Option<Engine<S>> = None;
-    let mut journal = Journal::new(alloc);
-    let status = run(
+    let status = run_by_rules::<S, CaseLibrary<'_>, MemorySink>(
         alloc,
+        count,
         words,
         &mut library(setting),
         &mut sink,
-        listeners,
-        &mut engine,
-        &mut journal,
-    );
+    )?;
     Ok(Printed {
         status: status.number(),
         sink,
     })
-}
-
-/// Runs the words with sixteen listeners, as the program does.
-fn run_heard<S: FrameStore>(
-    alloc: Global,
-    words: &[String],
-    setting: &Setting<'_>,
-) -> Result<Printed, OutOfMemory> {
-    let mut listeners: Vec<Box<dyn Listener>> = Vec::new(alloc);
-    add_listener(&mut listeners, listener(alloc)?)?;
-    add_listener(&mut listeners, listener(alloc)?)?;
-    add_listener(&mut listeners, listener(alloc)?)?;
-    add_listener(&mut listeners, listener(alloc)?)?;
-    add_listener(&mut listeners, listener(alloc)?)?;
-    add_listener(&mut listeners, listener(alloc)?)?;
-    add_listener(&mut listeners, listener(alloc)?)?;
-    add_listener(&mut listeners, listener(alloc)?)?;
-    add_listener(&mut listeners, listener(alloc)?)?;
-    add_listener(&mut listeners, listener(alloc)?)?;
-    add_listener(&mut listeners, listener(alloc)?)?;
-    add_listener(&mut listeners, listener(alloc)?)?;
-    add_listener(&mut listeners, listener(alloc)?)?;
-    add_listener(&mut listeners, listener(alloc)?)?;
-    add_listener(&mut listeners, listener(alloc)?)?;
-    add_listener(&mut listeners, listener(alloc)?)?;
-    run_with::<S>(alloc, words, setting, &mut listeners)
-}
-
-/// Runs the words without listeners.
-fn run_alone<S: FrameStore>(
-    alloc: Global,
-    words: &[String],
-    setting: &Setting<'_>,
-) -> Result<Printed, OutOfMemory> {
-    let mut listeners: Vec<Box<dyn Listener>> = Vec::new(alloc);
-    run_with::<S>(alloc, words, setting, &mut listeners)
 }
 
 /// Runs the words.
@@ -150,11 +93,9 @@ pub fn run_words(
     words: &[String],
     setting: &Setting<'_>,
 ) -> anyhow::Result<Printed> {
-    let printed = match (setting.store, setting.is_heard) {
-        (Store::Index, true) => run_heard::<IndexStore>(alloc, words, setting),
-        (Store::List, true) => run_heard::<ListStore>(alloc, words, setting),
-        (Store::Index, false) => run_alone::<IndexStore>(alloc, words, setting),
-        (Store::List, false) => run_alone::<ListStore>(alloc, words, setting),
+    let printed = match setting.store {
+        Store::Index => run_over::<IndexStore>(alloc, words, setting),
+        Store::List => run_over::<ListStore>(alloc, words, setting),
     };
     match printed {
         Ok(printed) => Ok(printed),

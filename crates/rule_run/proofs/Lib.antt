@@ -1,0 +1,2 @@
+mod PrintedTexts
+mod RuleListeners
