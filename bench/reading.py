@@ -4,7 +4,8 @@
     reading.py [--names | --text] [FUNCTION] [--below CRATE..]
 
 FUNCTION is a public function's name (default: run, which is the program). Printed is a table by crates, with the
-definitions of each, their files and lines, then the sums, and apart from them the types and traits of the code. With
+definitions of each, their files and lines, then the sums, once more without what nobody need believe
+(BETWEEN_CONTRACTS), and apart from them the types and traits of the code. With
 --names all of these come first, a line each, in an order in which each stands behind what it cites (but where some cite
 each other); with --text they come with their lines. With --below the definitions of these crates are left out, and what
 only they cite: `--below mse_engine` shows what a reader meets before the machine.
@@ -22,6 +23,9 @@ TOP = os.path.join(os.path.dirname(os.path.abspath(__file__)), "..")
 NAME = re.compile(r"[^\W\d][\w'-]*")
 HEAD = re.compile(r"^(?:(?:(?:abbrev|unfoldable|pub|record|data)\s+)+([^\s:({]+)|([^\s:({]+) :)")
 USE = re.compile(r"^(?:ghost )?(?:pub )?use Rattle\.([\w.]+?)(?:\.\{(.*?)\})?(?: as (\S+?))?;?$")
+# Relations that this contract promises and that other contracts ask for. The two together say the same whatever the
+# relation is, so nobody need believe its definition.
+BETWEEN_CONTRACTS = {("mse_engine", "Stands")}
 DECLARED = re.compile(r"^pub (enum|struct|trait) (\w+)")
 
 
@@ -113,11 +117,8 @@ class Reader:
             if not match:
                 continue
             end = number
-            if "{" in line or not line.rstrip().endswith(";"):
-                while not lines[end].startswith("}") and not lines[end].rstrip().endswith(";") or end == number and "{" in line and "}" not in line:
-                    end += 1
-                    if lines[end].startswith("}"):
-                        break
+            while not (lines[end].startswith("}") if line.endswith("{") else lines[end].endswith((";", "}"))):
+                end += 1
             body = [text for text in lines[number:end + 1] if text.strip() and not text.strip().startswith(("//", "#["))]
             definition = Definition(path, number + 1, match.group(2), body)
             definition.kind = match.group(1)
@@ -268,21 +269,24 @@ class Reader:
         return definition, roots
 
 
-def in_order(reader, roots, below):
-    """Each definition behind those that it cites."""
+def in_order(reader, roots, below, without=frozenset()):
+    """Each definition behind those that it cites, but for those of some crates and some by their names."""
     done, order = set(), []
+
+    def is_left_out(one):
+        return crate_of(one) in below or (crate_of(one), one.name) in without
 
     def visit(definition):
         stack = [(definition, None)]
         while stack:
             here, cited = stack.pop()
             if cited is None:
-                if here in done or crate_of(here) in below:
+                if here in done or is_left_out(here):
                     continue
                 done.add(here)
                 cited = iter(reader.cited(here))
             for one in cited:
-                if one not in done and crate_of(one) not in below:
+                if one not in done and not is_left_out(one):
                     stack.append((here, cited))
                     stack.append((one, None))
                     break
@@ -320,6 +324,8 @@ def main():
     for crate, ones in crates.items():
         print_row(crate, ones, "definitions")
     print_row("all", [one for ones in crates.values() for one in ones], "definitions")
+    needed = in_order(reader, roots, set(options.below), BETWEEN_CONTRACTS)
+    print_row("to be believed", [one for one in needed if one not in types], "definitions")
     print_row("of code", types, "types, traits")
     print(f"The contract of {options.function} has {len(contract.lines)} lines.")
 
