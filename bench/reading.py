@@ -23,9 +23,9 @@ TOP = os.path.join(os.path.dirname(os.path.abspath(__file__)), "..")
 NAME = re.compile(r"[^\W\d][\w'-]*")
 HEAD = re.compile(r"^(?:(?:(?:abbrev|unfoldable|pub|record|data)\s+)+([^\s:({]+)|([^\s:({]+) :)")
 USE = re.compile(r"^(?:ghost )?(?:pub )?use Rattle\.([\w.]+?)(?:\.\{(.*?)\})?(?: as (\S+?))?;?$")
-# Relations that this contract promises and that other contracts ask for. The two together say the same whatever the
-# relation is, so nobody need believe its definition.
-BETWEEN_CONTRACTS = {("mse_engine", "Stands")}
+# Relations that contracts promise and that others ask for, and that no contract says more of. The two together say the
+# same whatever the relation is, so nobody need believe its definition: how what a parser keeps stands for its string.
+BETWEEN_CONTRACTS = {("byte_stream", "Stands")}
 DECLARED = re.compile(r"^pub (enum|struct|trait) (\w+)")
 
 
