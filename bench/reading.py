@@ -1,14 +1,15 @@
 #!/usr/bin/env python3
 """Lists the definitions that the contract of a function rests on, each behind those that it cites.
 
-    reading.py [--names | --text] [FUNCTION] [--below CRATE..]
+    reading.py [--names | --text] [FUNCTION] [--clause LABEL..] [--below CRATE..]
 
 FUNCTION is a public function's name (default: run, which is the program). Printed is a table by crates, with the
 definitions of each, their files and lines, then the sums, once more without what nobody need believe
 (BETWEEN_CONTRACTS), and apart from them the types and traits of the code. With
 --names all of these come first, a line each, in an order in which each stands behind what it cites (but where some cite
 each other); with --text they come with their lines. With --below the definitions of these crates are left out, and what
-only they cite: `--below mse_engine` shows what a reader meets before the machine.
+only they cite: `--below mse_engine` shows what a reader meets before the machine. With --clause only the clauses of these
+labels are read: `--clause program` shows what the program as a function rests on.
 
 Read are the names in `requires` and `ensures` of the function, and from there on each name that a definition uses: of
 its own file, or brought in by `use` (in code `ghost use`). Definitions stand in crates/*/specs. Of the code count the
@@ -86,6 +87,18 @@ def words_of(clause):
     bound |= set(re.findall(r"(\w+) ←", text))
     text = re.sub(r"(^\s+(?:pub )?|[{;]\s*)\w+ (?:=|:)(?= )", r"\1", text, flags=re.M)
     return (set(re.findall(r"[^\s(){}\[\],;.]+", text)) | set(NAME.findall(text))) - bound
+
+
+def with_labels(lines, labels):
+    """The head of a function, and its clauses that have one of these labels; all, where there is none."""
+    found, wanted = [], True
+    for line in lines:
+        clause = re.match(r"\s+(?:requires|ensures) (\w*)", line)
+        if clause:
+            wanted = not labels or clause.group(1) in labels
+        if wanted:
+            found.append(line)
+    return found
 
 
 class Scope:
@@ -234,8 +247,8 @@ class Reader:
             found += self.by_path(definition, scope)
         return [one for one in found if one is not definition]
 
-    def contract(self, function):
-        """The clauses of a function, as a definition, with the traits whose meanings they name."""
+    def contract(self, function, labels):
+        """The clauses of a function (those of some labels, if any), as a definition, and what they name."""
         for (crate, name), folder in self.folders():
             for file in folder:
                 lines = lines_of(file)
@@ -244,7 +257,7 @@ class Reader:
                         end = number
                         while lines[end].rstrip() not in ("{", "{}"):
                             end += 1
-                        return self.clauses(crate, file, number, function, lines[number:end])
+                        return self.clauses(crate, file, number, function, with_labels(lines[number:end], labels))
         raise SystemExit(f"no public function {function}")
 
     def folders(self):
@@ -307,10 +320,11 @@ def main():
     parser.add_argument("function", nargs="?", default="run")
     parser.add_argument("--names", action="store_true")
     parser.add_argument("--text", action="store_true")
+    parser.add_argument("--clause", nargs="*", default=[])
     parser.add_argument("--below", nargs="*", default=[])
     options = parser.parse_args()
     reader = Reader()
-    contract, roots = reader.contract(options.function)
+    contract, roots = reader.contract(options.function, options.clause)
     order = in_order(reader, roots, set(options.below))
     if options.names or options.text:
         for definition in order:
