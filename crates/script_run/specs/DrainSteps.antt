@@ -1,7 +1,7 @@
 -- What a drain does (docs/SCRIPTS.md, step lines).
 use Rattle.std.specs.Prelude.{◌≡◌, ℕ, true, false, List, [], ◌∷◌, slice_get, Option, Some, None, ⊤}
 use Rattle.mse_calls.specs.declared.entry.Entry.{Entry}
-use Rattle.mse_calls.specs.declared.entry.Entry.TheVariants.{Step, Script, Listener, Fired, Work, Element}
+use Rattle.mse_calls.specs.declared.entry.Entry.TheVariants.{Listener, Fired, Work, Element}
 use Rattle.mse_engine.specs.State.{State}
 use Rattle.mse_engine.specs.Work.{after_element_turn, after_work, is_turn_due, running_in}
 use Rattle.mse_engine.specs.Run.{after_entries, entry_meaning}
@@ -32,8 +32,7 @@ IsNextStep st (Fired event) = slice_get st.element.queue 0 ≡ Some event
 IsNextStep st (Work k) = (st.element.queue ≡ []) × (running_in st ≡ Some k)
 IsNextStep st Element = IsQuiet st × (is_turn_due st ≡ true)
 IsNextStep st (Listener w call answer) = ⊤
-IsNextStep st (Script call answer) = ⊥
-IsNextStep st (Step n) = ⊥
+IsNextStep st other = ⊥
 
 -- no event waits
 abbrev pub HasNoEvent : State → Type 0

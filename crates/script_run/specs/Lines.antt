@@ -15,11 +15,7 @@ use Rattle.script_run.specs.Turns.{AreCallsInPlace, calls_in}
 abbrev pub own_of : List Entry → List Entry
 own_of [] = []
 own_of (entry.Listener w call answer ∷ entries) = own_of entries
-own_of (entry.Step n ∷ entries) = entry.Step n ∷ own_of entries
-own_of (entry.Script call answer ∷ entries) = entry.Script call answer ∷ own_of entries
-own_of (entry.Fired event ∷ entries) = entry.Fired event ∷ own_of entries
-own_of (entry.Work k ∷ entries) = entry.Work k ∷ own_of entries
-own_of (entry.Element ∷ entries) = entry.Element ∷ own_of entries
+own_of (other ∷ entries) = other ∷ own_of entries
 
 -- the line is done by these entries
 abbrev pub IsLineEntries : List (List ℕ) → State → StepLine → List Entry → Type 0

@@ -2,7 +2,7 @@
 -- heard it, made its calls, was told their answers, and rested.
 use Rattle.std.specs.Prelude.{◌≡◌, ◌<◌, ℕ, List, [], ◌∷◌, ◌++◌, length}
 use Rattle.mse_calls.specs.declared.entry.Entry.{Entry}
-use Rattle.mse_calls.specs.declared.entry.Entry.TheVariants.{Step, Script, Listener, Fired, Work, Element}
+use Rattle.mse_calls.specs.declared.entry.Entry.TheVariants.{Fired}
 use Rattle.listeners.specs.declared.listener.Note.{Note}
 use Rattle.listeners.specs.Notes.{event_notes}
 use Rattle.listeners.specs.Dispatch.{notes_at}
@@ -11,24 +11,14 @@ use Rattle.listeners.specs.Dispatch.{notes_at}
 abbrev pub entries_until_event : List Entry → List Entry
 entries_until_event [] = []
 entries_until_event (Fired event ∷ entries) = []
-entries_until_event (Step n ∷ entries) = Step n ∷ entries_until_event entries
-entries_until_event (Script call answer ∷ entries) =
-    Script call answer ∷ entries_until_event entries
-entries_until_event (Listener v call answer ∷ entries) =
-    Listener v call answer ∷ entries_until_event entries
-entries_until_event (Work k ∷ entries) = Work k ∷ entries_until_event entries
-entries_until_event (Element ∷ entries) = Element ∷ entries_until_event entries
+entries_until_event (other ∷ entries) = other ∷ entries_until_event entries
 
 -- the notes of listener `w`: one part for each event, of the calls between it and the next
 abbrev pub note_history : ℕ → List Entry → List Note
 note_history w [] = []
 note_history w (Fired event ∷ entries) =
     event_notes event w (entries_until_event entries) ++ note_history w entries
-note_history w (Step n ∷ entries) = note_history w entries
-note_history w (Script call answer ∷ entries) = note_history w entries
-note_history w (Listener v call answer ∷ entries) = note_history w entries
-note_history w (Work k ∷ entries) = note_history w entries
-note_history w (Element ∷ entries) = note_history w entries
+note_history w (other ∷ entries) = note_history w entries
 
 -- the notes of each listener grew by what the journal tells of it
 pub record IsAllHeard (entries : List Entry) (old new : List (List Note)) : Type 0 where

@@ -1,7 +1,7 @@
 -- When listeners call (docs/SCRIPTS.md, rules).
 use Rattle.std.specs.Prelude.{◌≡◌, ◌≤◌, ◌+◌, ℕ, suc, List, [], ◌∷◌, ◌++◌, ⊤}
 use Rattle.mse_calls.specs.declared.entry.Entry.{Entry}
-use Rattle.mse_calls.specs.declared.entry.Entry.TheVariants.{Step, Script, Listener, Fired, Work, Element}
+use Rattle.mse_calls.specs.declared.entry.Entry.TheVariants.{Step, Listener, Fired}
 use Rattle.listeners.specs.Dispatch.{AreCallsInTurn}
 use Rattle.listeners.specs.Notes.{call_count}
 
@@ -14,11 +14,7 @@ abbrev pub calls_in_front : List Entry → List Entry
 calls_in_front [] = []
 calls_in_front (Listener w call answer ∷ entries) =
     Listener w call answer ∷ calls_in_front entries
-calls_in_front (Fired event ∷ entries) = []
-calls_in_front (Step n ∷ entries) = []
-calls_in_front (Script call answer ∷ entries) = []
-calls_in_front (Work k ∷ entries) = []
-calls_in_front (Element ∷ entries) = []
+calls_in_front (other ∷ entries) = []
 
 -- By these calls `count` listeners answered one event: their numbers do not fall, and of each there are at most 1000.
 pub record AreAnswersToEvent (count : ℕ) (calls : List Entry) : Type 0 where
@@ -29,10 +25,7 @@ pub record AreAnswersToEvent (count : ℕ) (calls : List Entry) : Type 0 where
 abbrev pub AreCallsBehind : ℕ → Entry → List Entry → Type 0
 AreCallsBehind count (Fired event) calls = AreAnswersToEvent count calls
 AreCallsBehind count (Listener w call answer) calls = ⊤
-AreCallsBehind count (Step n) calls = calls ≡ []
-AreCallsBehind count (Script call answer) calls = calls ≡ []
-AreCallsBehind count (Work k) calls = calls ≡ []
-AreCallsBehind count Element calls = calls ≡ []
+AreCallsBehind count other calls = calls ≡ []
 
 abbrev pub AreCallsBehindEach : ℕ → List Entry → Type 0
 AreCallsBehindEach count [] = ⊤
@@ -48,21 +41,13 @@ pub record AreCallsInPlace (count : ℕ) (entries : List Entry) : Type 0 where
 abbrev pub calls_in : List Entry → ℕ
 calls_in [] = 0
 calls_in (Listener w call answer ∷ entries) = suc (calls_in entries)
-calls_in (Fired event ∷ entries) = calls_in entries
-calls_in (Script call answer ∷ entries) = calls_in entries
-calls_in (Step n ∷ entries) = calls_in entries
-calls_in (Work k ∷ entries) = calls_in entries
-calls_in (Element ∷ entries) = calls_in entries
+calls_in (other ∷ entries) = calls_in entries
 
 -- how many lines began
 abbrev pub steps_in : List Entry → ℕ
 steps_in [] = 0
 steps_in (Step n ∷ entries) = suc (steps_in entries)
-steps_in (Listener w call answer ∷ entries) = steps_in entries
-steps_in (Fired event ∷ entries) = steps_in entries
-steps_in (Script call answer ∷ entries) = steps_in entries
-steps_in (Work k ∷ entries) = steps_in entries
-steps_in (Element ∷ entries) = steps_in entries
+steps_in (other ∷ entries) = steps_in entries
 
 -- says how many calls listeners may still make behind entries
 abbrev pub CallsLeft : Type 1
