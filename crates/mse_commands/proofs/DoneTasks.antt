@@ -1,5 +1,5 @@
 -- What was done of what was asked for.
-use Rattle.std.proofs.Common.{◌≡◌, ◌≤◌, ℕ, suc, List, [], ◌∷◌, ◌++◌, length, refl, ap, sym, ◌∙◌, subst, arith, inl, inr}
+use Rattle.std.proofs.Common.{◌≡◌, ◌≤◌, ℕ, List, [], ◌∷◌, ◌++◌, length, refl, ap, sym, ◌∙◌, subst, arith, inl, inr}
 use Rattle.std.specs.Prelude.{Bool, true, Option, Some, None, IfSome, Result, Ok, Err, is_err}
 use Rattle.std.proofs.lemmas.List.{append-nil}
 use Rattle.mse_outside.specs.Outside.{HasRisen, SinkView, Table}
@@ -7,10 +7,7 @@ use Rattle.bmff_write.specs.Made.{made_bytes}
 use Rattle.mse_calls.specs.declared.entry.Entry.{Entry}
 use Rattle.mse_calls.specs.declared.rules.Rule.{Rule}
 use Rattle.call_script.specs.declared.script.Script.{Script as CallScript}
-use Rattle.call_script.specs.declared.script.StepLine.{StepLine}
-use Rattle.mse_engine.specs.State.{State}
 use Rattle.mse_engine.specs.Standing.{KeptEngine, Stands}
-use Rattle.mse_engine.specs.Run.{after_entries}
 use Rattle.mse_engine.specs.Transitions.{IsTransition}
 use Rattle.mse_engine.specs.Views.{view_in}
 use Rattle.mse_engine.proofs.Transitions.{goes_none}
@@ -22,13 +19,14 @@ use Rattle.script_run.specs.declared.stop.Halt.{Halt}
 use Rattle.script_run.specs.declared.stop.Halt.TheVariants as halt
 use Rattle.script_run.specs.declared.stop.Stop.{Stop}
 use Rattle.script_run.specs.declared.stop.Stop.TheVariants as stop
-use Rattle.script_run.specs.Follows.{AreLinesBegun, AreLinesDone}
-use Rattle.script_run.specs.Lines.{Limits, limits, play_inputs}
+use Rattle.script_run.specs.Lines.{limits}
 use Rattle.listeners.specs.Views.{RunView}
 use Rattle.script_run.specs.RunStates.{RunState, outside_in, outside_view, printed_run}
 use Rattle.script_run.specs.Text.{lines_in, lines_of}
 use Rattle.script_run.specs.Turns.{HasCallsLeftInLine}
 use Rattle.script_run.specs.Writes.{IsWritten, IsFrontWritten}
+use Rattle.cut_law.specs.Plays.{play_entries}
+use Rattle.cut_law.proofs.Singles.{some-play}
 use Rattle.script_run.proofs.PartsInRow.{IsWanting, memory_wanting, sink_wanting, stopped_none}
 use Rattle.script_run.proofs.PutLines.{wrote_more, wrote_none}
 use Rattle.script_run.proofs.StoppedParts.{at_limit}
@@ -41,7 +39,8 @@ use Rattle.mse_commands.specs.Loads.{IsMade, IsReached, IsUnmade, IsLoadEnd, IsS
 use Rattle.mse_commands.specs.Endings.{end_of_halt}
 use Rattle.mse_commands.specs.Outcomes.{IsRun, RunOutcome, IsWholeRun, outcome, outside_of}
 use Rattle.mse_commands.specs.Remuxing.{remux_pieces}
-use Rattle.mse_commands.specs.Shown.{IsWholeFile, file_closing, last_state, pieces_by}
+use Rattle.mse_commands.specs.Shown.{IsAllOf, IsWholeFile, file_closing, last_state, pieces_by}
+use Rattle.mse_commands.proofs.FrontParts.{part_of_begun}
 use Rattle.mse_commands.specs.Works.{IsAppended, IsFrontRun, IsPartAppended, IsNothingDone, IsSomeDone, IsDoneUpTo, IsFileFrontShown, IsScriptShowResult, IsScriptHalfPlayed, IsScriptPlayed, IsScriptCutShort, IsScriptStopped, IsScriptUnplayed, IsFrontShown, IsFileShowResult, IsRequestDone, IsRequestDoneBy, IsTaskDone, script_inputs}
 use Rattle.mse_commands.proofs.LoadedFiles.{end_as, reached_behind, reached_first, reached_more, script_there}
 
@@ -311,7 +310,7 @@ remux_whole count request bytes a b w0 w1 notes rules broken wrote is = record {
 remux_some : (count : ℕ) (stop : Stop) (bytes : List ℕ) (a b : ℕ) (w0 w1 : SinkView) (notes : List (List Note)) (rules : List (List Rule)) → IsFrontWritten (remux_pieces bytes) w0 w1
     → IsSomeDone count stop (ByRemux bytes) (outcome [] None (outside_of a w0 notes rules) (outside_of b w1 notes rules))
 remux_some count stop bytes a b w0 w1 notes rules wrote = record {
-  ran = record { run = remux_ran bytes a b w0 w1 notes rules; front = refl; rules = refl };
+  ran = record { run = remux_ran bytes a b w0 w1 notes rules; front = ([], refl); rules = refl };
   came = inr (refl, (refl, refl), record { middle = w0; wrote = wrote_none w0; front = wrote });
 }
 
@@ -405,14 +404,6 @@ blobs_not_loaded (Some files) a b c name script end entries engine written count
 
 -- ---- a script that was run
 
-pub whole_begun : (blobs : List (List ℕ)) (limits : Limits) (n : ℕ) (st : State) (lines : List StepLine) (es : List Entry) → AreLinesDone (play_inputs blobs limits) n st lines es → AreLinesBegun (play_inputs blobs limits) n st lines es
-whole_begun blobs limits n st [] es p = p
-whole_begun blobs limits n st (line ∷ lines) es p = inr (inr (p.0, p.1, p.2, p.3, whole_begun blobs limits (suc n) (after_entries blobs st p.0) lines p.1 p.4))
-
-pub none_begun : (blobs : List (List ℕ)) (limits : Limits) (n : ℕ) (st : State) (lines : List StepLine) → AreLinesBegun (play_inputs blobs limits) n st lines []
-none_begun blobs limits n st [] = refl
-none_begun blobs limits n st (line ∷ lines) = inl refl
-
 script_ran : (script : CallScript) (blobs : List (List ℕ)) (a b : KeptEngine) (es : List Entry) (after : RunOutcome) → Stands a (opening_of (ByScript script blobs)) → IsTransition blobs a b es
     → after.entries ≡ es → after.engine ≡ Some b → IsRun (ByScript script blobs) after
 script_ran script blobs a b es after stands goes entries engine = record {
@@ -447,7 +438,7 @@ module _ (count : ℕ) (request : Request) (script : CallScript) (blobs : List (
       record {
         ran = record {
           run = script_ran script blobs a.run.engine b.run.engine es (outcome b.run.entries (Some b.run.engine) (outside_of f0 a.written a.notes r0) (outside_of f1 b.written b.notes r1)) stands p.played.grew.goes all refl;
-          front = rw all (whole_begun blobs (limits script.drain count) 0 (opening_of (ByScript script blobs)) script.steps es (p.played.grew.holds (opening_of (ByScript script blobs)) stands));
+          front = rw all ([], subst (λ (x : List Entry). IsAllOf count (ByScript script blobs) x) (sym (append-nil es)) (p.played.grew.holds (opening_of (ByScript script blobs)) stands));
           rules = inr p.rules_are;
         };
         came = rw all (inr (p.played.grew.holds (opening_of (ByScript script blobs)) stands, (p.rules_are, p.played.heard), record { middle = p.middle; wrote = p.played.wrote; front = p.shown (last_state (ByScript script blobs) es) last }));
@@ -461,7 +452,7 @@ module _ (count : ℕ) (request : Request) (script : CallScript) (blobs : List (
       let all : b.run.entries ≡ es = all_of es p.played.grew.grew in
       record {
         run = script_ran script blobs a.run.engine b.run.engine es (outcome b.run.entries (Some b.run.engine) (outside_of f0 a.written a.notes r0) (outside_of f1 b.written b.notes r1)) stands p.played.grew.goes all refl;
-        front = rw all (p.played.grew.holds (opening_of (ByScript script blobs)) stands);
+        front = rw all (part_of_begun script.steps blobs (limits script.drain count) 0 (opening_of (ByScript script blobs)) es (p.played.grew.holds (opening_of (ByScript script blobs)) stands));
         rules = inr p.rules_are;
       }
 
@@ -479,7 +470,7 @@ module _ (count : ℕ) (request : Request) (script : CallScript) (blobs : List (
         ran = record {
           run = script_ran script blobs a.run.engine b.run.engine [] (outcome b.run.entries (Some b.run.engine) (outside_of f0 a.written a.notes r0) (outside_of f1 b.written b.notes r1)) stands
               (rw engine (goes_none blobs a.run.engine)) all refl;
-          front = rw all (none_begun blobs (limits script.drain count) 0 (opening_of (ByScript script blobs)) script.steps);
+          front = rw all (play_entries blobs 0 (opening_of (ByScript script blobs)) script.steps, (some-play blobs (limits script.drain count) 0 (opening_of (ByScript script blobs)) script.steps).whole);
           rules = inl all;
         };
         came = inl (rw (all, p.written, p.notes) (stopped_none (HasCallsLeftInLine script.drain) s (outside_view a.written a.notes) wanting));

@@ -3,6 +3,7 @@ pub mod LoadedFiles
 pub mod Pieces
 pub mod FileAppends
 pub mod FileProgress
+pub mod FrontParts
 pub mod DoneTasks
 pub mod FailedLoads
 pub mod PlayedScripts

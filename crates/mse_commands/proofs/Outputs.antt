@@ -15,6 +15,7 @@ use Rattle.mse_engine.specs.Run.{IsReplay}
 use Rattle.remux.specs.Pieces.{pieces_of_file}
 use Rattle.script_run.specs.declared.stop.Stop.{Stop}
 use Rattle.script_run.specs.declared.stop.Stop.TheVariants as stop
+use Rattle.script_run.specs.Follows.{AreLinesBegun}
 use Rattle.script_run.specs.Lines.{limits, play_inputs}
 use Rattle.script_run.specs.NoteHistory.{IsAllHeard}
 use Rattle.script_run.specs.PlayedParts.{IsDispatchCut, IsHeardUpTo, IsWrittenToLastStep}
@@ -37,6 +38,7 @@ use Rattle.mse_commands.specs.Played.{Part, listeners_from}
 use Rattle.mse_commands.specs.Program.{Output, opening_play, output_behind, output_of_end, output_of_request, output_of_script, output_of_task, output_then, script_played, program_of, status_by}
 use Rattle.mse_commands.proofs.ByWays.{by_length, from_length, notes_by}
 use Rattle.mse_commands.proofs.CutJournals.{begun_turns, cut_play, rest_in}
+use Rattle.mse_commands.proofs.FrontParts.{begun_of_part}
 use Rattle.mse_commands.proofs.CutNotes.{AreFresh, AreNotesBy, all_served, cut_served, end_of, events_until}
 use Rattle.mse_commands.proofs.CutDispatches.{IsPartTo}
 use Rattle.mse_commands.proofs.Drains.{whole_part}
@@ -82,12 +84,13 @@ cut_script f ways script blobs left c t w =
     let hs = listeners_from 0 script.rules ways in
     let st : State = opening_of (ByScript script blobs) in
     let own : AreRulesOfNumbers script.rules left.now.rules = elim w.rules [ inl e ↦ absurd (some_entries c.before (Fired c.event) c.calls (sym c.entries_are ∙ e)) | inr r ↦ r ] in
+    let front : AreLinesBegun (play_inputs blobs (limits script.drain (length ways))) 0 st script.steps left.entries = begun_of_part script.steps blobs (limits script.drain (length ways)) 0 st left.entries w.front.0 w.front.1 in
     let many : length hs ≡ length ways = from_length 0 script.rules ways in
     let by : AreNotesBy hs left.now.notes = notes_by ways script.rules left.now.rules left.now.notes t.by_ways own in
     let count : length left.before.notes ≡ length hs = omega (arith, many, by_length ways left.now.rules left.now.notes t.by_ways, c.heard.count, c.count) in
-    let turns : AreInTurn (length hs) None left.entries = subst (λ n. AreInTurn n None left.entries) (sym many) (begun_turns (play_inputs blobs (limits script.drain (length ways))) 0 st script.steps left.entries w.front) in
+    let turns : AreInTurn (length hs) None left.entries = subst (λ n. AreInTurn n None left.entries) (sym many) (begun_turns (play_inputs blobs (limits script.drain (length ways))) 0 st script.steps left.entries front) in
     let served = cut_served (HasCallsLeftInLine script.drain) f hs left.entries left.before.notes left.now.notes c by t.fresh count turns in
-    cut_play script.steps blobs (limits script.drain (length ways)) 0 (opening_play ways script blobs) left.entries c.left (end_of f) w.front w.replays served (rest_in (end_of f) script.drain left.entries c.left c.left_is)
+    cut_play script.steps blobs (limits script.drain (length ways)) 0 (opening_play ways script blobs) left.entries c.left (end_of f) front w.replays served (rest_in (end_of f) script.drain left.entries c.left c.left_is)
 
 -- of one of which all events were answered
 begun_script : (ways : List Way) (script : CallScript) (blobs : List (List ℕ)) (left : RunOutcome) → IsTold ways left → AreRulesOfNumbers script.rules left.now.rules → IsAllHeard left.entries left.before.notes left.now.notes
@@ -96,12 +99,13 @@ unfolding script_played
 begun_script ways script blobs left t own heard w =
     let hs = listeners_from 0 script.rules ways in
     let st : State = opening_of (ByScript script blobs) in
+    let front : AreLinesBegun (play_inputs blobs (limits script.drain (length ways))) 0 st script.steps left.entries = begun_of_part script.steps blobs (limits script.drain (length ways)) 0 st left.entries w.front.0 w.front.1 in
     let many : length hs ≡ length ways = from_length 0 script.rules ways in
     let by : AreNotesBy hs left.now.notes = notes_by ways script.rules left.now.rules left.now.notes t.by_ways own in
     let count : length left.before.notes ≡ length hs = omega (arith, many, by_length ways left.now.rules left.now.notes t.by_ways, heard.count) in
-    let turns : AreInTurn (length hs) None left.entries = subst (λ n. AreInTurn n None left.entries) (sym many) (begun_turns (play_inputs blobs (limits script.drain (length ways))) 0 st script.steps left.entries w.front) in
+    let turns : AreInTurn (length hs) None left.entries = subst (λ n. AreInTurn n None left.entries) (sym many) (begun_turns (play_inputs blobs (limits script.drain (length ways))) 0 st script.steps left.entries front) in
     let served = events_until left.entries hs 0 (all_served hs left.entries left.before.notes left.now.notes by t.fresh count turns heard) in
-    cut_play script.steps blobs (limits script.drain (length ways)) 0 (opening_play ways script blobs) left.entries 0 None w.front w.replays served tt
+    cut_play script.steps blobs (limits script.drain (length ways)) 0 (opening_play ways script blobs) left.entries 0 None front w.replays served tt
 
 -- all entries are in front of themselves
 all_front : (all es : List Entry) → all ≡ es → IsFront es all

@@ -46,6 +46,7 @@ use Rattle.mse_commands.proofs.Dispatches.{after_both}
 use Rattle.mse_commands.proofs.DrainEnds.{drained_rests, fire_still}
 use Rattle.mse_commands.proofs.CutDrains.{calls_all}
 use Rattle.mse_commands.proofs.CutJournals.{begun_turns}
+use Rattle.mse_commands.proofs.FrontParts.{part_of_begun}
 use Rattle.mse_commands.proofs.OwnAnswers.{played_by}
 use Rattle.mse_commands.proofs.OwnDispatches.{IsLimitEnd, IsOwnCut, IsOwnDispatchEnd, end_at, own_dispatch, replays_join, turns_of}
 
@@ -402,7 +403,7 @@ script_own ways script blobs =
       replays = p.replays;
       state = p.state;
       whole = p.whole;
-      front = p.begun;
+      front = part_of_begun script.steps blobs (limits script.drain (length ways)) 0 (opening_play ways script blobs).state part.entries p.begun;
       heard = λ e. subst (λ (ns : List (List Note)). IsAllHeard part.entries ns (notes_of_each part.now.listeners)) old (hears None e);
       cause = λ stop e. limit_of stop script.drain part.entries (empty_notes ways) (notes_of_each part.now.listeners)
           (subst (λ (ns : List (List Note)). IsCutAtLimit stop (HasCallsLeftInLine script.drain) part.entries ns (notes_of_each part.now.listeners)) old (hears (Some stop) e));

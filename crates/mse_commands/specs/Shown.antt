@@ -12,7 +12,7 @@ use Rattle.mse_engine.specs.State.{State}
 use Rattle.mse_engine.specs.Run.{after_entries}
 use Rattle.mse_engine.specs.Views.{view_in}
 use Rattle.script_run.specs.DrainSteps.{IsDrain}
-use Rattle.script_run.specs.Follows.{AreLinesBegun, AreLinesDone}
+use Rattle.script_run.specs.Follows.{AreLinesDone}
 use Rattle.script_run.specs.Lines.{limits, play_inputs}
 use Rattle.script_run.specs.Text.{lines_in, lines_of}
 use Rattle.script_run.specs.Turns.{calls_in}
@@ -94,14 +94,9 @@ IsAllOf count (ByFile command bytes) entries =
     (pieces_by command (length bytes)) entries
 IsAllOf count (ByRemux bytes) entries = entries ≡ []
 
--- a script is done up to some place; of a file, a front of all is done
+-- a front of all of it is done: with some entries behind these it is all
 abbrev pub IsFrontOf : ℕ → Task → List Entry → Type 0
-IsFrontOf count (ByScript script blobs) entries =
-    AreLinesBegun (play_inputs blobs (limits script.drain count)) 0
-    (opening_of (ByScript script blobs)) script.steps entries
-IsFrontOf count (ByFile command bytes) entries =
-    (rest : List Entry) × IsAllOf count (ByFile command bytes) (entries ++ rest)
-IsFrontOf count (ByRemux bytes) entries = entries ≡ []
+IsFrontOf count task entries = (rest : List Entry) × IsAllOf count task (entries ++ rest)
 
 -- ---- what is printed
 
