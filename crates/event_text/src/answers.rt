@@ -4,7 +4,7 @@ ghost use Rattle.mse_calls.specs.Level.{level_number};
 ghost use Rattle.event_text.specs.Words.{bool_text};
 ghost use Rattle.event_text.specs.Answers.{ready_text, element_text, state_text, refused_text, answer_text};
 
-use crate::times::{push_moment, push_range, push_ranges};
+use crate::times::{push_moment, push_range, push_ranges, push_ticks};
 use crate::words::push_decimal;
 use mse_calls::{Answer, Level, Name, Ready, StateView};
 use std::alloc::AllocError;
@@ -51,7 +51,8 @@ fn push_element(text: &mut String, state: &StateView) -> Result<(), AllocError>
     ensures { OnOk result (string_bytes text.new
         ≡ string_bytes text.old ++ element_text state.now) }
 {
-    write!(text, "position {}", state.position.get())?;
+    text.push_str("position ")?;
+    push_ticks(text, state.position)?;
     text.push_str(playing_words(state.paused, state.seeking))?;
     push_decimal(text, u32::from(state.error))
 }

@@ -1,9 +1,19 @@
-ghost use Rattle.std.specs.Prelude.{◌≡◌, ◌∷◌, ◌++◌, OnOk, string_bytes};
+ghost use Rattle.std.specs.Prelude.{◌≡◌, ◌∷◌, ◌++◌, OnOk, codes, string_bytes};
+ghost use Rattle.std.specs.Fmt.{signed_decimal};
 ghost use Rattle.event_text.specs.Times.{moment_text, span_text, ranges_text, range_text};
 
-use mse_base::{Moment, Span};
+use itoa::Buffer;
+use mse_base::{Moment, Span, Ticks};
 use mse_calls::TimeRanges;
 use std::alloc::AllocError;
+
+/// Appends a time, in ticks.
+pub fn push_ticks(text: &mut String, t: Ticks) -> Result<(), AllocError>
+    ensures { OnOk result (string_bytes text.new ≡ string_bytes text.old ++ signed_decimal t) }
+{
+    let mut buffer = Buffer::new();
+    text.push_str(buffer.format(t.get()))
+}
 
 /// Appends a time in ticks, or `nan` or `inf`.
 pub fn push_moment(text: &mut String, t: Moment) -> Result<(), AllocError>
@@ -11,16 +21,28 @@ pub fn push_moment(text: &mut String, t: Moment) -> Result<(), AllocError>
 {
     match t {
         Moment::Nan => text.push_str("nan"),
-        Moment::At(ticks) => write!(text, "{}", ticks.get()),
+        Moment::At(ticks) => push_ticks(text, ticks),
         Moment::Infinite => text.push_str("inf"),
     }
+}
+
+/// Appends `[A,B`.
+fn push_bounds(text: &mut String, span: &Span) -> Result<(), AllocError>
+    ensures { OnOk result (string_bytes text.new ≡ string_bytes text.old ++ (codes "["
+        ++ (signed_decimal span.now.start ++ (codes "," ++ signed_decimal span.now.end)))) }
+{
+    text.push_str("[")?;
+    push_ticks(text, span.start)?;
+    text.push_str(",")?;
+    push_ticks(text, span.end)
 }
 
 /// Appends `[A,B)`.
 fn push_span(text: &mut String, span: &Span) -> Result<(), AllocError>
     ensures { OnOk result (string_bytes text.new ≡ string_bytes text.old ++ span_text span.now) }
 {
-    write!(text, "[{},{})", span.start.get(), span.end.get())
+    push_bounds(text, span)?;
+    text.push_str(")")
 }
 
 /// Appends a space and `[A,B)`.
@@ -38,7 +60,10 @@ pub fn push_range(text: &mut String, range: &Option<Span>) -> Result<(), AllocEr
 {
     match range {
         None => text.push_str("none"),
-        Some(span) => write!(text, "[{},{}]", span.start.get(), span.end.get()),
+        Some(span) => {
+            push_bounds(text, &span)?;
+            text.push_str("]")
+        }
     }
 }
 

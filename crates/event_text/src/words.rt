@@ -2,6 +2,7 @@ ghost use Rattle.std.specs.Prelude.{◌≡◌, ◌<◌, ◌++◌, IfOk, OnOk, ma
 ghost use Rattle.std.specs.Fmt.{decimal};
 ghost use Rattle.event_text.specs.Words.{sign_of, printable_text};
 
+use itoa::Buffer;
 use mse_base::{OutOfMemory, Text};
 use std::alloc::{AllocError, Global};
 
@@ -44,12 +45,13 @@ pub fn printable_text(alloc: Global, text: &str) -> Result<Text, OutOfMemory>
     Ok(Text::from_string(alloc, signs))
 }
 
-/// Appends a number in decimal: one digit as a character, and more by `write!`, which takes longer.
+/// Appends a number in decimal: one digit as a character, since the others take longer.
 pub fn push_decimal(text: &mut String, n: u32) -> Result<(), AllocError>
     ensures { OnOk result (string_bytes text.new ≡ string_bytes text.old ++ decimal n) }
 {
     if n < 10 {
         return text.push(char::from(b'0' + n as u8));
     }
-    write!(text, "{n}")
+    let mut buffer = Buffer::new();
+    text.push_str(buffer.format(n))
 }
