@@ -1,9 +1,9 @@
 //! The lines of a track, each of which is put with one put.
 
-ghost use Rattle.std.specs.Prelude.{◌≡◌, ◌≤◌, [], ◌∷◌, ◌++◌, codes, IfOk, OnOk, OnErr, IsErrOf, string_bytes};
+ghost use Rattle.std.specs.Prelude.{◌≡◌, [], ◌∷◌, ◌++◌, codes, IfOk, OnOk, OnErr, string_bytes};
 ghost use Rattle.std.specs.Fmt.{signed_decimal};
 ghost use Rattle.event_text.specs.Words.{words};
-ghost use Rattle.mse_outside.specs.Outside.{HasRisen};
+ghost use Rattle.script_run.specs.Keeps.{AreFailuresTold};
 ghost use Rattle.script_run.specs.Writes.{IsWritten, IsFrontWritten};
 ghost use Rattle.feed_lines.specs.Lines.{answer_text, end_line, frame_line, none_line, size_text, wanted_line};
 
@@ -105,9 +105,7 @@ pub fn put_none<K: Sink>(alloc: Global, sink: &mut K, id: u32, at: Ticks) -> Res
         (K.written sink.new)) }
     ensures err { OnErr result (IsFrontWritten (none_line id at ∷ []) (K.written sink.old)
         (K.written sink.new)) }
-    ensures no_fewer_faults { K.faults sink.old ≤ K.faults sink.new }
-    ensures cause { IsErrOf result Halt.Write → HasRisen (K.faults sink.old) (K.faults sink.new) }
-    ensures failures_told { ¬ IsErrOf result Halt.Write → K.faults sink.new ≡ K.faults sink.old }
+    ensures puts { AreFailuresTold Halt.Write (K.faults sink.old) (K.faults sink.new) result }
 {
     match none_line(alloc, id, at) {
         Ok(line) => put_bytes(sink, line.as_bytes()),
@@ -130,9 +128,7 @@ pub fn put_wanted<K: Sink>(
         (K.written sink.new)) }
     ensures err { OnErr result (IsFrontWritten (wanted_line id at serial ∷ []) (K.written sink.old)
         (K.written sink.new)) }
-    ensures no_fewer_faults { K.faults sink.old ≤ K.faults sink.new }
-    ensures cause { IsErrOf result Halt.Write → HasRisen (K.faults sink.old) (K.faults sink.new) }
-    ensures failures_told { ¬ IsErrOf result Halt.Write → K.faults sink.new ≡ K.faults sink.old }
+    ensures puts { AreFailuresTold Halt.Write (K.faults sink.old) (K.faults sink.new) result }
 {
     match wanted_line(alloc, id, at, serial) {
         Ok(line) => put_bytes(sink, line.as_bytes()),
@@ -148,9 +144,7 @@ pub fn put_frame<K: Sink>(alloc: Global, sink: &mut K, stored: &Stored) -> Resul
         (K.written sink.new)) }
     ensures err { OnErr result (IsFrontWritten (frame_line stored.now ∷ []) (K.written sink.old)
         (K.written sink.new)) }
-    ensures no_fewer_faults { K.faults sink.old ≤ K.faults sink.new }
-    ensures cause { IsErrOf result Halt.Write → HasRisen (K.faults sink.old) (K.faults sink.new) }
-    ensures failures_told { ¬ IsErrOf result Halt.Write → K.faults sink.new ≡ K.faults sink.old }
+    ensures puts { AreFailuresTold Halt.Write (K.faults sink.old) (K.faults sink.new) result }
 {
     match frame_line(alloc, stored) {
         Ok(line) => put_bytes(sink, line.as_bytes()),
@@ -166,9 +160,7 @@ pub fn put_end<K: Sink>(alloc: Global, sink: &mut K, answer: FeedNext) -> Result
         (K.written sink.new)) }
     ensures err { OnErr result (IsFrontWritten (end_line answer ∷ []) (K.written sink.old)
         (K.written sink.new)) }
-    ensures no_fewer_faults { K.faults sink.old ≤ K.faults sink.new }
-    ensures cause { IsErrOf result Halt.Write → HasRisen (K.faults sink.old) (K.faults sink.new) }
-    ensures failures_told { ¬ IsErrOf result Halt.Write → K.faults sink.new ≡ K.faults sink.old }
+    ensures puts { AreFailuresTold Halt.Write (K.faults sink.old) (K.faults sink.new) result }
 {
     match end_line(alloc, answer) {
         Ok(line) => put_bytes(sink, line.as_bytes()),

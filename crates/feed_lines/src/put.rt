@@ -1,7 +1,7 @@
 //! The feeds of a track, put as they come.
 
-ghost use Rattle.std.specs.Prelude.{◌≡◌, ◌≤◌, IfOk, IsSome, OnOk, OnErr, IsErrOf};
-ghost use Rattle.mse_outside.specs.Outside.{HasRisen};
+ghost use Rattle.std.specs.Prelude.{◌≡◌, IfOk, IsSome, OnOk, OnErr};
+ghost use Rattle.script_run.specs.Keeps.{AreFailuresTold};
 ghost use Rattle.script_run.specs.Writes.{IsWritten, IsFrontWritten};
 ghost use Rattle.track_store.specs.Frames.{overlapped};
 ghost use Rattle.track_store.specs.Sound.{IsSound};
@@ -36,9 +36,7 @@ fn put_given<S: FrameStore, K: Sink>(
         (K.written sink.old) (K.written sink.new)) }
     ensures err { OnErr result (IsFrontWritten (given_lines at (state_of S.frames track.now))
         (K.written sink.old) (K.written sink.new)) }
-    ensures no_fewer_faults { K.faults sink.old ≤ K.faults sink.new }
-    ensures cause { IsErrOf result Halt.Write → HasRisen (K.faults sink.old) (K.faults sink.new) }
-    ensures failures_told { ¬ IsErrOf result Halt.Write → K.faults sink.new ≡ K.faults sink.old }
+    ensures puts { AreFailuresTold Halt.Write (K.faults sink.old) (K.faults sink.new) result }
 {
     // The proof reads off this that each frame ends at a time.
     track.store.serials_ascend();
@@ -77,9 +75,7 @@ pub fn put_feeds<S: FrameStore, K: Sink>(
         (K.written sink.old) (K.written sink.new)) }
     ensures err { OnErr result (IsFrontWritten (lines_of_track from (state_of S.frames track.now))
         (K.written sink.old) (K.written sink.new)) }
-    ensures no_fewer_faults { K.faults sink.old ≤ K.faults sink.new }
-    ensures cause { IsErrOf result Halt.Write → HasRisen (K.faults sink.old) (K.faults sink.new) }
-    ensures failures_told { ¬ IsErrOf result Halt.Write → K.faults sink.new ≡ K.faults sink.old }
+    ensures puts { AreFailuresTold Halt.Write (K.faults sink.old) (K.faults sink.new) result }
 {
     let mut feeder = Feeder::new();
     let mut at = from;

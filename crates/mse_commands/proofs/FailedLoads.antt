@@ -1,7 +1,6 @@
 -- The file whose load failed.
 use Rattle.std.proofs.Common.{◌≡◌, ◌+◌, ◌<◌, ℕ, List, [], ◌∷◌, ◌++◌, refl, ap, sym, ◌∙◌, subst, append_assoc, length, get_or, take, drop, inl, inr}
 use Rattle.std.specs.Prelude.{Bool, Option, Some, None, IfSome, Result, Ok, Err, IsErrOf, ◌⊎◌}
-use Rattle.std.proofs.lemmas.List.{append-nil}
 use Rattle.std.proofs.lemmas.List.Elements.{filter_map-append}
 use Rattle.call_script.specs.declared.script.BlobText.{BlobText}
 use Rattle.call_script.specs.declared.script.Script.{Script as CallScript}

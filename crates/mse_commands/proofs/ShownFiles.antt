@@ -1,6 +1,6 @@
 -- A file that was shown, and what was asked for.
 use Rattle.std.proofs.Common.{◌≡◌, ℕ, List, [], length, refl, subst, inl, inr}
-use Rattle.std.specs.Prelude.{Bool, is_some, Option, Some, None, Result, Ok, Err}
+use Rattle.std.specs.Prelude.{Bool, is_some, Option, Some, None, Ok, Err}
 use Rattle.mse_outside.specs.Outside.{SinkView, Table}
 use Rattle.mse_calls.specs.declared.rules.Rule.{Rule}
 use Rattle.mse_calls.specs.declared.entry.Entry.{Entry}
@@ -12,12 +12,11 @@ use Rattle.script_run.specs.declared.stop.Halt.TheVariants as halt
 use Rattle.listeners.specs.Views.{RunView}
 use Rattle.script_run.specs.RunStates.{printed_run}
 use Rattle.script_run.specs.Writes.{IsWritten, IsFrontWritten}
-use Rattle.mse_commands.specs.declared.ending.End.{End}
 use Rattle.mse_commands.specs.declared.ending.End.TheVariants.{Memory, Words}
 use Rattle.mse_commands.specs.declared.words.Command.{Command}
-use Rattle.mse_commands.specs.Requests.{HasRequestOfCommand, HasRequestOfWords, request_of}
+use Rattle.mse_commands.specs.Requests.{HasRequestOfCommand, HasRequestOfWords, Request, request_of}
 use Rattle.mse_commands.specs.Endings.{end_of_halt}
-use Rattle.mse_commands.specs.Outcomes.{RunOutcome, outcome, outside_of}
+use Rattle.mse_commands.specs.Outcomes.{outcome, outside_of}
 use Rattle.mse_commands.specs.Shown.{file_closing, pieces_by}
 use Rattle.mse_commands.specs.Words.{command_of, file_of}
 use Rattle.mse_commands.specs.Works.{IsAppended, IsPartAppended, IsFileShowResult, IsRequestDone}
@@ -38,11 +37,10 @@ shows_half command bytes a b w0 w1 halt.Write p wrote = inr (p, wrote)
 
 -- ---- what was asked for
 
-pub works_asked : (table : Option Table) (count : ℕ) (name : List ℕ) (words : List (List ℕ)) (o : Option Command) (after : RunOutcome) (result : Result Bool End) → name ≡ file_of words → o ≡ command_of words
-    → HasRequestOfCommand table name o (λ request. IsRequestDone count request after result) → HasRequestOfWords table words (λ request. IsRequestDone count request after result)
-works_asked table count name words o after result is are p =
-    subst (λ (x : Option Command). HasRequestOfCommand table (file_of words) x (λ request. IsRequestDone count request after result)) are
-    (subst (λ (x : List ℕ). HasRequestOfCommand table x o (λ request. IsRequestDone count request after result)) is p)
+-- what holds of the request of a command holds of that of the words that ask for it
+pub asked_by : (table : Option Table) (words : List (List ℕ)) (name : List ℕ) (o : Option Command) (P : Request → Type 0) → name ≡ file_of words → o ≡ command_of words → HasRequestOfCommand table name o P
+    → HasRequestOfWords table words P
+asked_by table words name o P is are p = subst (λ (x : Option Command). HasRequestOfCommand table (file_of words) x P) are (subst (λ (x : List ℕ). HasRequestOfCommand table x o P) is p)
 
 no_command : (table : Option Table) (count f : ℕ) (name : List ℕ) (w : SinkView) (notes : List (List Note)) (rules : List (List Rule))
     → HasRequestOfCommand table name None (λ request. IsRequestDone count request (outcome [] None (outside_of f w notes rules) (outside_of f w notes rules)) (Err Words))
@@ -53,4 +51,5 @@ pub no_words : (table : Option Table) (count f : ℕ) (words : List (List ℕ)) 
     → None ≡ command_of words → entries ≡ [] → engine ≡ None
     → HasRequestOfWords table words (λ request. IsRequestDone count request (outcome entries engine (outside_of f w notes rules) (outside_of f w notes rules)) (Err Words))
 no_words table count f words entries engine w notes rules none empty nothing =
-    rw (empty, nothing) (works_asked table count (file_of words) words None (outcome [] None (outside_of f w notes rules) (outside_of f w notes rules)) (Err Words) refl none (no_command table count f (file_of words) w notes rules))
+    rw (empty, nothing) (asked_by table words (file_of words) None (λ request. IsRequestDone count request (outcome [] None (outside_of f w notes rules) (outside_of f w notes rules)) (Err Words)) refl none
+    (no_command table count f (file_of words) w notes rules))

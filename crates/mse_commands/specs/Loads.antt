@@ -1,5 +1,5 @@
 -- Why something of a library was not loaded.
-use Rattle.std.specs.Prelude.{◌≡◌, ℕ, List, [], ◌∷◌, ◌++◌, All, Option, IsSome, IfSome, Result, Err, ⊤}
+use Rattle.std.specs.Prelude.{◌≡◌, ◌≤◌, ℕ, List, [], ◌∷◌, ◌++◌, All, Option, IsSome, IfSome, Result, Err, IsErrAnd, IsErrOf, ⊤}
 use Rattle.bmff_write.specs.Made.{made_bytes}
 use Rattle.mse_outside.specs.Outside.{Table, HasRisen}
 use Rattle.mse_commands.specs.declared.ending.End.{End}
@@ -50,6 +50,13 @@ abbrev pub IsEndOfFailedLoad : End → Type 0
 IsEndOfFailedLoad (Read name) = ⊤
 IsEndOfFailedLoad Memory = ⊤
 IsEndOfFailedLoad other = ⊥
+
+-- A library's count of failures never falls: it rose, or stands at its end, where the end names a failed load, and it stayed
+-- unless the end is one of a failed load.
+pub record AreFailedLoadsTold {T : Type 0} (old new : ℕ) (result : Result T End) : Type 0 where
+  pub no_fewer : old ≤ new
+  pub cause : (name : List ℕ) → IsErrOf result (Read name) → HasRisen old new
+  pub told : ¬ IsErrAnd result IsEndOfFailedLoad → new ≡ old
 
 -- What is made is the file of the number, and only memory may be wanting for it.
 abbrev pub IsMade : Command → List ℕ → Type 0

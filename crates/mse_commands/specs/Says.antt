@@ -1,7 +1,7 @@
 -- What is said of an end, and the status that comes of it.
-use Rattle.std.specs.Prelude.{◌≡◌, ◌⊎◌, ℕ, List, [], ◌∷◌}
+use Rattle.std.specs.Prelude.{◌≡◌, ◌≢◌, ◌≤◌, ◌⊎◌, ℕ, List, [], ◌∷◌}
 use Rattle.mse_outside.specs.declared.library.Loaded.{Loaded}
-use Rattle.mse_outside.specs.Outside.{IsFailedLoad, SinkView}
+use Rattle.mse_outside.specs.Outside.{HasRisen, IsFailedLoad, SinkView}
 use Rattle.script_run.specs.Writes.{IsWritten, IsFrontWritten}
 use Rattle.mse_commands.specs.declared.ending.End.{End}
 use Rattle.mse_commands.specs.declared.ending.End.TheVariants.{Memory, Write, Read}
@@ -27,6 +27,13 @@ abbrev pub IsEndSaid : End → SinkView → SinkView → Status → Type 0
 IsEndSaid Memory old new said = (said ≡ status.Memory) × (new ≡ old)
 IsEndSaid Write old new said = (said ≡ status.Write) × (new ≡ old)
 IsEndSaid other old new said = IsLineSaid other old new said
+
+-- The sink's count of failures never falls; `Write` is said of an end that is a failed put, or where the count rose or stands
+-- at its end, and where anything else is said the count stayed.
+pub record AreFailedPutsSaid (end : End) (old new : ℕ) (said : Status) : Type 0 where
+  pub no_fewer : old ≤ new
+  pub cause : said ≡ status.Write → (end ≡ Write) ⊎ HasRisen old new
+  pub told : said ≢ status.Write → new ≡ old
 
 -- The line that was written names, of the files of these names, the one whose load failed.
 pub record IsFailedLoadSaid {L : Type 0} (load_gives : L → List ℕ → Loaded → L → Type 0)

@@ -1,21 +1,21 @@
 //! What each command does, up to its end, without its error line.
 
-ghost use Rattle.std.specs.Prelude.{◌≡◌, ◌≤◌, ◌<◌, ◌++◌, ◌^◌, ℕ, List, [], pos, false, None, Some, Ok, IfSome, IfOk, IfErr, OnOk, OnErr, IsErrAnd, IsErrOf, length, map, string_bytes, vec_len};
+ghost use Rattle.std.specs.Prelude.{◌≡◌, ◌<◌, ◌++◌, ◌^◌, ℕ, List, [], pos, false, None, Some, Ok, IfSome, IfOk, IfErr, OnOk, OnErr, IsErrOf, length, map, string_bytes, vec_len};
 ghost use Rattle.event_text.specs.Block.{closing_text};
 ghost use Rattle.listeners.specs.declared.listener.Note.{Note};
 ghost use Rattle.listeners.specs.Dispatch.{notes_at};
-ghost use Rattle.listeners.specs.Ways.{AreByWay};
 ghost use Rattle.mse_calls.specs.declared.rules.Rule.{Rule};
 ghost use Rattle.mse_engine.specs.State.{State};
 ghost use Rattle.mse_engine.specs.Standing.{Stands};
 ghost use Rattle.mse_engine.specs.Views.{view_in};
-ghost use Rattle.mse_outside.specs.Outside.{HasRisen, IsFailedLoad};
+ghost use Rattle.mse_outside.specs.Outside.{IsFailedLoad};
+ghost use Rattle.script_run.specs.Keeps.{AreFailuresTold, AreListenersInPlace};
 ghost use Rattle.script_run.specs.RunStates.{printed_run, run_at};
 ghost use Rattle.script_run.specs.Text.{lines_in};
 ghost use Rattle.script_run.specs.Writes.{IsWritten, IsFrontWritten};
 ghost use Rattle.mse_commands.specs.Requests.{IsFileCommand, HasRequestOfCommand, HasRequestOfWords, file_by, files_by};
 ghost use Rattle.mse_commands.specs.Heading.{heading_of};
-ghost use Rattle.mse_commands.specs.Loads.{IsEndOfFailedLoad, IsMade, IsUnmade, IsLoadEnd, failures};
+ghost use Rattle.mse_commands.specs.Loads.{AreFailedLoadsTold, IsMade, IsUnmade, IsLoadEnd, failures};
 ghost use Rattle.mse_commands.specs.Outcomes.{outcome, outcome_at, outside_of};
 ghost use Rattle.mse_commands.specs.Shown.{file_closing, pieces_by};
 ghost use Rattle.mse_commands.specs.Words.{IsInRange, command_of};
@@ -65,9 +65,7 @@ fn close<S: FrameStore, K: Sink>(
         → OnErr result (IsFrontWritten
         (lines_in (string_bytes before) ++ lines_in (closing_text (view_in st) whole))
         (K.written sink.old) (K.written sink.new)) }
-    ensures no_fewer_faults { K.faults sink.old ≤ K.faults sink.new }
-    ensures cause { IsErrOf result Halt.Write → HasRisen (K.faults sink.old) (K.faults sink.new) }
-    ensures failures_told { ¬ IsErrOf result Halt.Write → K.faults sink.new ≡ K.faults sink.old }
+    ensures puts { AreFailuresTold Halt.Write (K.faults sink.old) (K.faults sink.new) result }
 {
     let Ok(view) = engine.view() else {
         return Err(Halt::Memory);
@@ -113,6 +111,7 @@ fn file_for<L: Library>(
 ) -> Result<Vec<u8>, End>
     requires { IsInRange command.now }
     ensures table { L.table library.new ≡ L.table library.old }
+    ensures failures { AreFailedLoadsTold (L.faults library.old) (L.faults library.new) result }
     ensures ok { IfSome (L.table library.old) (λ files.
         IfOk result (λ bytes. file_by files name.now command.now ≡ Ok bytes.items)) }
     ensures early_end { IfErr result (IsLoadEnd (L.table library.old)
@@ -120,9 +119,6 @@ fn file_for<L: Library>(
         (files_by name.now command.now) (λ files. file_by files name.now command.now)) }
     ensures made { IfOk result (λ bytes. IsMade command.now bytes.items) }
     ensures unmade { IfErr result (IsUnmade command.now) }
-    ensures no_fewer_faults { L.faults library.old ≤ L.faults library.new }
-    ensures failures_told { ¬ IsErrAnd result IsEndOfFailedLoad
-        → L.faults library.new ≡ L.faults library.old }
     ensures failed_load { (other : List ℕ) → IsErrOf result (End.Read other)
         → IsFailedLoad L.load_gives (files_by name.now command.now) other library.old library.new }
 {
@@ -156,9 +152,7 @@ fn close_block<S: FrameStore, K: Sink>(
         → OnErr result (IsFrontWritten
         (lines_in (heading_of command.now len) ++ lines_in (closing_text (view_in st) false))
         (K.written sink.old) (K.written sink.new)) }
-    ensures no_fewer_faults { K.faults sink.old ≤ K.faults sink.new }
-    ensures cause { IsErrOf result Halt.Write → HasRisen (K.faults sink.old) (K.faults sink.new) }
-    ensures failures_told { ¬ IsErrOf result Halt.Write → K.faults sink.new ≡ K.faults sink.old }
+    ensures puts { AreFailuresTold Halt.Write (K.faults sink.old) (K.faults sink.new) result }
 {
     match heading(alloc, command, len) {
         Ok(before) => close(alloc, engine, sink, before, false),
@@ -180,9 +174,7 @@ fn close_file<S: FrameStore, K: Sink>(
     ensures err { (st : State) → Stands engine.now st
         → OnErr result (IsFrontWritten (file_closing command.now len st)
         (K.written sink.old) (K.written sink.new)) }
-    ensures no_fewer_faults { K.faults sink.old ≤ K.faults sink.new }
-    ensures cause { IsErrOf result Halt.Write → HasRisen (K.faults sink.old) (K.faults sink.new) }
-    ensures failures_told { ¬ IsErrOf result Halt.Write → K.faults sink.new ≡ K.faults sink.old }
+    ensures puts { AreFailuresTold Halt.Write (K.faults sink.old) (K.faults sink.new) result }
 {
     match *command {
         Command::Feed(at) => close_feed(alloc, engine, sink, at),
@@ -207,9 +199,7 @@ fn show_file<S: FrameStore, K: Sink>(
     ensures shows { IsFileShowResult command.now file.items
         (printed_run run.old (K.written sink.old)) (printed_run run.new (K.written sink.new))
         result }
-    ensures no_fewer_faults { K.faults sink.old ≤ K.faults sink.new }
-    ensures write { IsErrOf result End.Write → HasRisen (K.faults sink.old) (K.faults sink.new) }
-    ensures failed_puts_told { ¬ IsErrOf result End.Write → K.faults sink.new ≡ K.faults sink.old }
+    ensures puts { AreFailuresTold End.Write (K.faults sink.old) (K.faults sink.new) result }
 {
     let len = file.len();
     let Ok(()) = append_file(alloc, run, command, file) else {
@@ -238,13 +228,9 @@ fn play_script<S: FrameStore, K: Sink>(
         (run_at run.old (K.written sink.old) (map (λ b. notes b) listeners.old.items))
         (run_at run.new (K.written sink.new) (map (λ b. notes b) listeners.new.items)) result }
     ensures count { vec_len listeners.new ≡ vec_len listeners.old }
-    ensures kinds { map (λ b. b.vtable) listeners.new.items
-        ≡ map (λ b. b.vtable) listeners.old.items }
-    ensures ways { map (λ b. way b) listeners.new.items ≡ map (λ b. way b) listeners.old.items }
-    ensures by_way { AreByWay way rules notes listeners.new.items }
-    ensures no_fewer_faults { K.faults sink.old ≤ K.faults sink.new }
-    ensures write { IsErrOf result End.Write → HasRisen (K.faults sink.old) (K.faults sink.new) }
-    ensures failed_puts_told { ¬ IsErrOf result End.Write → K.faults sink.new ≡ K.faults sink.old }
+    ensures listeners { AreListenersInPlace (λ b. b.vtable) way rules notes listeners.old.items
+        listeners.new.items }
+    ensures puts { AreFailuresTold End.Write (K.faults sink.old) (K.faults sink.new) result }
 {
     let limit = script.drain;
     let Ok(()) = give_rules(alloc, listeners, script.rules.into_vec()) else {
@@ -292,14 +278,8 @@ fn run_file<S: FrameStore, L: Library, K: Sink>(
         (outside_of (L.faults library.new) (K.written sink.new) told given))
         result) }
     ensures words { ¬ IsErrOf result End.Words }
-    ensures no_fewer_read_faults { L.faults library.old ≤ L.faults library.new }
-    ensures no_fewer_faults { K.faults sink.old ≤ K.faults sink.new }
-    ensures write { IsErrOf result End.Write → HasRisen (K.faults sink.old) (K.faults sink.new) }
-    ensures failed_puts_told { ¬ IsErrOf result End.Write → K.faults sink.new ≡ K.faults sink.old }
-    ensures read { (name : List ℕ) → IsErrOf result (End.Read name)
-        → HasRisen (L.faults library.old) (L.faults library.new) }
-    ensures failed_loads_told { ¬ IsErrAnd result IsEndOfFailedLoad
-        → L.faults library.new ≡ L.faults library.old }
+    ensures puts { AreFailuresTold End.Write (K.faults sink.old) (K.faults sink.new) result }
+    ensures loads { AreFailedLoadsTold (L.faults library.old) (L.faults library.new) result }
     ensures failed_load { (other : List ℕ) → IsErrOf result (End.Read other)
         → HasRequestOfCommand (L.table library.old) name.now (Some command) (λ request.
         IsFailedLoad L.load_gives request.names other library.old library.new) }
@@ -345,19 +325,11 @@ fn run_script<S: FrameStore, L: Library, K: Sink>(
         (library.old, sink.old, listeners.old.items)
         (library.new, sink.new, listeners.new.items)) result) }
     ensures count { vec_len listeners.new ≡ vec_len listeners.old }
-    ensures kinds { map (λ b. b.vtable) listeners.new.items
-        ≡ map (λ b. b.vtable) listeners.old.items }
-    ensures ways { map (λ b. way b) listeners.new.items ≡ map (λ b. way b) listeners.old.items }
-    ensures by_way { AreByWay way rules notes listeners.new.items }
+    ensures listeners { AreListenersInPlace (λ b. b.vtable) way rules notes listeners.old.items
+        listeners.new.items }
     ensures words { ¬ IsErrOf result End.Words }
-    ensures no_fewer_read_faults { L.faults library.old ≤ L.faults library.new }
-    ensures no_fewer_faults { K.faults sink.old ≤ K.faults sink.new }
-    ensures write { IsErrOf result End.Write → HasRisen (K.faults sink.old) (K.faults sink.new) }
-    ensures failed_puts_told { ¬ IsErrOf result End.Write → K.faults sink.new ≡ K.faults sink.old }
-    ensures read { (name : List ℕ) → IsErrOf result (End.Read name)
-        → HasRisen (L.faults library.old) (L.faults library.new) }
-    ensures failed_loads_told { ¬ IsErrAnd result IsEndOfFailedLoad
-        → L.faults library.new ≡ L.faults library.old }
+    ensures puts { AreFailuresTold End.Write (K.faults sink.old) (K.faults sink.new) result }
+    ensures loads { AreFailedLoadsTold (L.faults library.old) (L.faults library.new) result }
     ensures failed_load { (other : List ℕ) → IsErrOf result (End.Read other)
         → HasRequestOfCommand (L.table library.old) name.now (Some Command.Play) (λ request.
         IsFailedLoad L.load_gives request.names other library.old library.new) }
@@ -375,54 +347,6 @@ fn run_script<S: FrameStore, L: Library, K: Sink>(
     let result = play_script(alloc, &mut run, &blobs, sink, listeners, script);
     hand_out(run, engine, journal);
     result
-}
-
-/// What a command asks for.
-fn run_command<S: FrameStore, L: Library, K: Sink>(
-    alloc: Global,
-    command: Command,
-    name: &str,
-    library: &mut L,
-    sink: &mut K,
-    listeners: &mut Vec<Box<dyn Listener>>,
-    engine: &mut Option<Engine<S>>,
-    journal: &mut Journal,
-) -> Result<bool, End>
-    requires range { IsInRange command }
-    requires listeners { vec_len listeners.old < 2 ^ 32 }
-    requires no_notes { (w : ℕ) → notes_at (map (λ b. notes b) listeners.old.items) w ≡ [] }
-    requires journal { journal.old.entries ≡ [] }
-    requires no_engine { engine.old ≡ None }
-    ensures works { HasRequestOfCommand (L.table library.old) name.now (Some command) (λ request.
-        IsRequestDone (vec_len listeners.old) request
-        (outcome_at L.faults K.written notes rules journal.new.entries engine.new
-        (library.old, sink.old, listeners.old.items)
-        (library.new, sink.new, listeners.new.items)) result) }
-    ensures count { vec_len listeners.new ≡ vec_len listeners.old }
-    ensures kinds { map (λ b. b.vtable) listeners.new.items
-        ≡ map (λ b. b.vtable) listeners.old.items }
-    ensures ways { map (λ b. way b) listeners.new.items ≡ map (λ b. way b) listeners.old.items }
-    ensures by_way { AreByWay way rules notes listeners.new.items }
-    ensures words { ¬ IsErrOf result End.Words }
-    ensures no_fewer_read_faults { L.faults library.old ≤ L.faults library.new }
-    ensures no_fewer_faults { K.faults sink.old ≤ K.faults sink.new }
-    ensures write { IsErrOf result End.Write → HasRisen (K.faults sink.old) (K.faults sink.new) }
-    ensures failed_puts_told { ¬ IsErrOf result End.Write → K.faults sink.new ≡ K.faults sink.old }
-    ensures read { (name : List ℕ) → IsErrOf result (End.Read name)
-        → HasRisen (L.faults library.old) (L.faults library.new) }
-    ensures failed_loads_told { ¬ IsErrAnd result IsEndOfFailedLoad
-        → L.faults library.new ≡ L.faults library.old }
-    ensures failed_load { (other : List ℕ) → IsErrOf result (End.Read other)
-        → HasRequestOfCommand (L.table library.old) name.now (Some command) (λ request.
-        IsFailedLoad L.load_gives request.names other library.old library.new) }
-{
-    match command {
-        Command::Play => run_script(alloc, name, library, sink, listeners, engine, journal),
-        Command::Remux => run_remux(alloc, name, library, sink),
-        Command::Ranges | Command::Pieces(_) | Command::Make(_) | Command::Feed(_) => {
-            run_file(alloc, command, name, library, sink, engine, journal)
-        }
-    }
 }
 
 /// Does what the words ask for, up to its end. It answers whether a file breaks the byte stream
@@ -446,28 +370,24 @@ pub fn work<S: FrameStore, L: Library, K: Sink>(
         (library.old, sink.old, listeners.old.items)
         (library.new, sink.new, listeners.new.items)) result) }
     ensures count { vec_len listeners.new ≡ vec_len listeners.old }
-    ensures kinds { map (λ b. b.vtable) listeners.new.items
-        ≡ map (λ b. b.vtable) listeners.old.items }
-    ensures ways { map (λ b. way b) listeners.new.items ≡ map (λ b. way b) listeners.old.items }
-    ensures by_way { AreByWay way rules notes listeners.new.items }
+    ensures listeners { AreListenersInPlace (λ b. b.vtable) way rules notes listeners.old.items
+        listeners.new.items }
     ensures words { IsErrOf result End.Words → command_of (map string_bytes words.now) ≡ None }
-    ensures no_fewer_read_faults { L.faults library.old ≤ L.faults library.new }
-    ensures no_fewer_faults { K.faults sink.old ≤ K.faults sink.new }
-    ensures write { IsErrOf result End.Write → HasRisen (K.faults sink.old) (K.faults sink.new) }
-    ensures failed_puts_told { ¬ IsErrOf result End.Write → K.faults sink.new ≡ K.faults sink.old }
-    ensures read { (name : List ℕ) → IsErrOf result (End.Read name)
-        → HasRisen (L.faults library.old) (L.faults library.new) }
-    ensures failed_loads_told { ¬ IsErrAnd result IsEndOfFailedLoad
-        → L.faults library.new ≡ L.faults library.old }
+    ensures puts { AreFailuresTold End.Write (K.faults sink.old) (K.faults sink.new) result }
+    ensures loads { AreFailedLoadsTold (L.faults library.old) (L.faults library.new) result }
     ensures failed_load { (other : List ℕ) → IsErrOf result (End.Read other)
         → HasRequestOfWords (L.table library.old) (map string_bytes words.now) (λ request.
         IsFailedLoad L.load_gives request.names other library.old library.new) }
 {
     let name = file_name(words);
-    match read_command(words) {
-        None => Err(End::Words),
-        Some(command) => run_command(
-            alloc, command, name, library, sink, listeners, engine, journal,
-        ),
+    let Some(command) = read_command(words) else {
+        return Err(End::Words);
+    };
+    match command {
+        Command::Play => run_script(alloc, name, library, sink, listeners, engine, journal),
+        Command::Remux => run_remux(alloc, name, library, sink),
+        Command::Ranges | Command::Pieces(_) | Command::Make(_) | Command::Feed(_) => {
+            run_file(alloc, command, name, library, sink, engine, journal)
+        }
     }
 }

@@ -1,11 +1,11 @@
 //! What a decoder is given of the tracks of the one source buffer.
 
-ghost use Rattle.std.specs.Prelude.{◌≡◌, ◌≤◌, length, slice_get, IfOk, IfSome, OnOk, OnErr, IsErrOf};
+ghost use Rattle.std.specs.Prelude.{◌≡◌, length, slice_get, IfOk, IfSome, OnOk, OnErr};
 ghost use Rattle.feed_lines.specs.Lines.{lines_of_track};
 ghost use Rattle.event_text.specs.Block.{fault_lines};
 ghost use Rattle.mse_engine.specs.State.{State};
 ghost use Rattle.mse_engine.specs.Standing.{Stands};
-ghost use Rattle.mse_outside.specs.Outside.{HasRisen};
+ghost use Rattle.script_run.specs.Keeps.{AreFailuresTold};
 ghost use Rattle.script_run.specs.Text.{line_if_any};
 ghost use Rattle.script_run.specs.Writes.{IsWritten, IsFrontWritten};
 ghost use Rattle.mse_commands.specs.Feeds.{feed_closing, feeds_in, tracks_in};
@@ -54,9 +54,7 @@ fn put_track<S: FrameStore, K: Sink>(
     ensures err { (st : State) → Stands engine.now st
         → OnErr result (IfSome (slice_get (tracks_in st) i)
         (λ t. IsFrontWritten (lines_of_track at t) (K.written sink.old) (K.written sink.new))) }
-    ensures no_fewer_faults { K.faults sink.old ≤ K.faults sink.new }
-    ensures cause { IsErrOf result Halt.Write → HasRisen (K.faults sink.old) (K.faults sink.new) }
-    ensures failures_told { ¬ IsErrOf result Halt.Write → K.faults sink.new ≡ K.faults sink.old }
+    ensures puts { AreFailuresTold Halt.Write (K.faults sink.old) (K.faults sink.new) result }
 {
     // The proof reads off this that the track is sound.
     engine.sound();
@@ -78,18 +76,13 @@ fn put_tracks<S: FrameStore, K: Sink>(
         → OnOk result (IsWritten (feeds_in at st) (K.written sink.old) (K.written sink.new)) }
     ensures err { (st : State) → Stands engine.now st
         → OnErr result (IsFrontWritten (feeds_in at st) (K.written sink.old) (K.written sink.new)) }
-    ensures no_fewer_faults { K.faults sink.old ≤ K.faults sink.new }
-    ensures cause { IsErrOf result Halt.Write → HasRisen (K.faults sink.old) (K.faults sink.new) }
-    ensures failures_told { ¬ IsErrOf result Halt.Write → K.faults sink.new ≡ K.faults sink.old }
+    ensures puts { AreFailuresTold Halt.Write (K.faults sink.old) (K.faults sink.new) result }
 {
     let Ok(count) = track_count(engine) else {
         return Err(Halt::Memory);
     };
     for i in 0..count {
-        match put_track(alloc, engine, sink, at, i) {
-            Ok(()) => {}
-            Err(halt) => return Err(halt),
-        }
+        put_track(alloc, engine, sink, at, i)?;
     }
     Ok(())
 }
@@ -101,9 +94,7 @@ fn put_fault<K: Sink>(alloc: Global, sink: &mut K, fault: Option<FaultView>) -> 
         (K.written sink.new)) }
     ensures err { OnErr result (IsFrontWritten (line_if_any (fault_lines fault))
         (K.written sink.old) (K.written sink.new)) }
-    ensures no_fewer_faults { K.faults sink.old ≤ K.faults sink.new }
-    ensures cause { IsErrOf result Halt.Write → HasRisen (K.faults sink.old) (K.faults sink.new) }
-    ensures failures_told { ¬ IsErrOf result Halt.Write → K.faults sink.new ≡ K.faults sink.old }
+    ensures puts { AreFailuresTold Halt.Write (K.faults sink.old) (K.faults sink.new) result }
 {
     let Some(fault) = fault else {
         return Ok(());
@@ -126,13 +117,8 @@ pub fn close_feed<S: FrameStore, K: Sink>(
     ensures err { (st : State) → Stands engine.now st
         → OnErr result (IsFrontWritten (feed_closing at st) (K.written sink.old)
         (K.written sink.new)) }
-    ensures no_fewer_faults { K.faults sink.old ≤ K.faults sink.new }
-    ensures cause { IsErrOf result Halt.Write → HasRisen (K.faults sink.old) (K.faults sink.new) }
-    ensures failures_told { ¬ IsErrOf result Halt.Write → K.faults sink.new ≡ K.faults sink.old }
+    ensures puts { AreFailuresTold Halt.Write (K.faults sink.old) (K.faults sink.new) result }
 {
-    match put_tracks(alloc, engine, sink, at) {
-        Ok(()) => {}
-        Err(halt) => return Err(halt),
-    }
+    put_tracks(alloc, engine, sink, at)?;
     put_fault(alloc, sink, engine.fault())
 }

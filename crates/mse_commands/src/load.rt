@@ -1,9 +1,9 @@
 //! Files, scripts and blobs of the library.
 
-ghost use Rattle.std.specs.Prelude.{◌≡◌, ◌≤◌, ◌⊎◌, ◌∷◌, ℕ, List, [], length, Ok, IfSome, IfOk, IfErr, OnOk, IsErrAnd, IsErrOf};
+ghost use Rattle.std.specs.Prelude.{◌≡◌, ◌⊎◌, ◌∷◌, ℕ, List, [], length, Ok, IfSome, IfOk, IfErr, OnOk, IsErrOf};
 ghost use Rattle.mse_outside.specs.Outside.{AreLoaded, IsFailedLoad};
 ghost use Rattle.mse_commands.specs.Requests.{IsReadOf, blob_bytes, blobs_bytes, blob_file_names, file_bytes, script_of_file};
-ghost use Rattle.mse_commands.specs.Loads.{IsEndOfFailedLoad, IsLoadEnd, IsScriptEnd, failures};
+ghost use Rattle.mse_commands.specs.Loads.{AreFailedLoadsTold, IsLoadEnd, IsScriptEnd, failures};
 
 use crate::ending::End;
 use call_script::{BlobText, Script, ScriptError, read_script};
@@ -38,14 +38,12 @@ fn failed_read(alloc: Global, name: &str) -> End
 /// `Memory`.
 pub fn load<L: Library>(alloc: Global, library: &mut L, name: &str) -> Result<Vec<u8>, End>
     ensures table { L.table library.new ≡ L.table library.old }
+    ensures failures { AreFailedLoadsTold (L.faults library.old) (L.faults library.new) result }
     ensures ok { IfSome (L.table library.old) (λ files.
         IfOk result (λ made. file_bytes files name.now ≡ Ok made.items)) }
     ensures early_end { IfErr result (IsLoadEnd (L.table library.old)
         (failures (L.faults library.old) (L.faults library.new))
         (name.now ∷ []) (λ files. file_bytes files name.now)) }
-    ensures no_fewer_faults { L.faults library.old ≤ L.faults library.new }
-    ensures failures_told { ¬ IsErrAnd result IsEndOfFailedLoad
-        → L.faults library.new ≡ L.faults library.old }
     ensures loads { OnOk result (AreLoaded L.load_gives (name.now ∷ []) library.old library.new) }
     ensures failed_load { (other : List ℕ) → IsErrOf result (End.Read other)
         → IsFailedLoad L.load_gives (name.now ∷ []) other library.old library.new }
@@ -64,14 +62,12 @@ pub fn load<L: Library>(alloc: Global, library: &mut L, name: &str) -> Result<Ve
 /// As `load`; and `Script`, with its fault, where the bytes are no script.
 pub fn load_script<L: Library>(alloc: Global, library: &mut L, name: &str) -> Result<Script, End>
     ensures table { L.table library.new ≡ L.table library.old }
+    ensures failures { AreFailedLoadsTold (L.faults library.old) (L.faults library.new) result }
     ensures ok { IfSome (L.table library.old) (λ files.
         IfOk result (λ made. script_of_file files name.now ≡ Ok made)) }
     ensures as_read { IfOk result (λ made. IsReadOf (Ok made)) }
     ensures early_end { IfErr result (IsScriptEnd (L.table library.old)
         (failures (L.faults library.old) (L.faults library.new)) name.now) }
-    ensures no_fewer_faults { L.faults library.old ≤ L.faults library.new }
-    ensures failures_told { ¬ IsErrAnd result IsEndOfFailedLoad
-        → L.faults library.new ≡ L.faults library.old }
     ensures loads { OnOk result (AreLoaded L.load_gives (name.now ∷ []) library.old library.new) }
     ensures failed_load { (other : List ℕ) → IsErrOf result (End.Read other)
         → IsFailedLoad L.load_gives (name.now ∷ []) other library.old library.new }
@@ -90,14 +86,12 @@ pub fn load_script<L: Library>(alloc: Global, library: &mut L, name: &str) -> Re
 /// The bytes of a blob.
 fn load_blob<L: Library>(alloc: Global, library: &mut L, text: &BlobText) -> Result<Bytes, End>
     ensures table { L.table library.new ≡ L.table library.old }
+    ensures failures { AreFailedLoadsTold (L.faults library.old) (L.faults library.new) result }
     ensures ok { IfSome (L.table library.old) (λ files.
         IfOk result (λ made. blob_bytes files text.now ≡ Ok made)) }
     ensures early_end { IfErr result (IsLoadEnd (L.table library.old)
         (failures (L.faults library.old) (L.faults library.new))
         (blob_file_names (text.now ∷ [])) (λ files. blob_bytes files text.now)) }
-    ensures no_fewer_faults { L.faults library.old ≤ L.faults library.new }
-    ensures failures_told { ¬ IsErrAnd result IsEndOfFailedLoad
-        → L.faults library.new ≡ L.faults library.old }
     ensures loads { OnOk result (AreLoaded L.load_gives (blob_file_names (text.now ∷ []))
         library.old library.new) }
     ensures failed_load { (other : List ℕ) → IsErrOf result (End.Read other)
@@ -129,15 +123,13 @@ pub fn load_blobs<L: Library>(
     texts: &[BlobText],
 ) -> Result<Blobs, End>
     ensures table { L.table library.new ≡ L.table library.old }
+    ensures failures { AreFailedLoadsTold (L.faults library.old) (L.faults library.new) result }
     ensures ok { IfSome (L.table library.old) (λ files.
         IfOk result (λ made. blobs_bytes files texts.now ≡ Ok made)) }
     ensures count { IfOk result (λ made. length made ≡ length texts.now) }
     ensures early_end { IfErr result (IsLoadEnd (L.table library.old)
         (failures (L.faults library.old) (L.faults library.new))
         (blob_file_names texts.now) (λ files. blobs_bytes files texts.now)) }
-    ensures no_fewer_faults { L.faults library.old ≤ L.faults library.new }
-    ensures failures_told { ¬ IsErrAnd result IsEndOfFailedLoad
-        → L.faults library.new ≡ L.faults library.old }
     ensures loads { OnOk result (AreLoaded L.load_gives (blob_file_names texts.now)
         library.old library.new) }
     ensures failed_load { (other : List ℕ) → IsErrOf result (End.Read other)

@@ -1,12 +1,13 @@
 //! A classic file as fragments.
 
-ghost use Rattle.std.specs.Prelude.{◌≡◌, ◌≤◌, ℕ, List, [], ◌∷◌, None, Some, IfOk, OnOk, OnErr, IsErrAnd, IsErrOf, is_err};
+ghost use Rattle.std.specs.Prelude.{◌≡◌, ℕ, List, [], ◌∷◌, None, Some, IfOk, OnOk, OnErr, IsErrOf, is_err};
 ghost use Rattle.listeners.specs.declared.listener.Note.{Note};
 ghost use Rattle.mse_calls.specs.declared.rules.Rule.{Rule};
-ghost use Rattle.mse_outside.specs.Outside.{HasRisen, IsFailedLoad};
+ghost use Rattle.mse_outside.specs.Outside.{IsFailedLoad};
 ghost use Rattle.remux.specs.Pieces.{pieces_of_file};
+ghost use Rattle.script_run.specs.Keeps.{AreFailuresTold};
 ghost use Rattle.script_run.specs.Writes.{IsWritten, IsFrontWritten};
-ghost use Rattle.mse_commands.specs.Loads.{IsEndOfFailedLoad};
+ghost use Rattle.mse_commands.specs.Loads.{AreFailedLoadsTold};
 ghost use Rattle.mse_commands.specs.Requests.{HasRequestOfCommand};
 ghost use Rattle.mse_commands.specs.Outcomes.{outcome, outside_of};
 ghost use Rattle.mse_commands.specs.Remuxing.{remux_fault_line, remux_pieces};
@@ -26,18 +27,13 @@ use std::alloc::Global;
 fn put_pieces<K: Sink>(sink: &mut K, file: &FragmentedFile<'_>) -> Result<(), Halt>
     ensures ok { OnOk result (IsWritten file.now (K.written sink.old) (K.written sink.new)) }
     ensures err { OnErr result (IsFrontWritten file.now (K.written sink.old) (K.written sink.new)) }
-    ensures no_fewer_faults { K.faults sink.old ≤ K.faults sink.new }
-    ensures cause { IsErrOf result Halt.Write → HasRisen (K.faults sink.old) (K.faults sink.new) }
-    ensures failures_told { ¬ IsErrOf result Halt.Write → K.faults sink.new ≡ K.faults sink.old }
+    ensures puts { AreFailuresTold Halt.Write (K.faults sink.old) (K.faults sink.new) result }
 {
     for i in 0..file.piece_count() {
         let Ok(piece) = file.piece(i) else {
             return Err(Halt::Memory);
         };
-        match put_bytes(sink, piece.as_slice()) {
-            Ok(()) => {}
-            Err(halt) => return Err(halt),
-        }
+        put_bytes(sink, piece.as_slice())?;
     }
     Ok(())
 }
@@ -47,9 +43,7 @@ fn put_pieces<K: Sink>(sink: &mut K, file: &FragmentedFile<'_>) -> Result<(), Ha
 fn put_fragmented<K: Sink>(alloc: Global, sink: &mut K, file: &ClassicFile) -> Result<(), Halt>
     ensures ok { OnOk result (IsWritten file.now (K.written sink.old) (K.written sink.new)) }
     ensures err { OnErr result (IsFrontWritten file.now (K.written sink.old) (K.written sink.new)) }
-    ensures no_fewer_faults { K.faults sink.old ≤ K.faults sink.new }
-    ensures cause { IsErrOf result Halt.Write → HasRisen (K.faults sink.old) (K.faults sink.new) }
-    ensures failures_told { ¬ IsErrOf result Halt.Write → K.faults sink.new ≡ K.faults sink.old }
+    ensures puts { AreFailuresTold Halt.Write (K.faults sink.old) (K.faults sink.new) result }
 {
     match file.fragmented(alloc) {
         Ok(fragmented) => put_pieces(sink, &fragmented),
@@ -69,9 +63,7 @@ fn put_fault<K: Sink>(
         (K.written sink.old) (K.written sink.new)) }
     ensures err { OnErr result (IsFrontWritten (remux_fault_line fault offset ∷ [])
         (K.written sink.old) (K.written sink.new)) }
-    ensures no_fewer_faults { K.faults sink.old ≤ K.faults sink.new }
-    ensures cause { IsErrOf result Halt.Write → HasRisen (K.faults sink.old) (K.faults sink.new) }
-    ensures failures_told { ¬ IsErrOf result Halt.Write → K.faults sink.new ≡ K.faults sink.old }
+    ensures puts { AreFailuresTold Halt.Write (K.faults sink.old) (K.faults sink.new) result }
 {
     match remux_fault_line(alloc, fault, offset) {
         Ok(line) => put_bytes(sink, line.as_bytes()),
@@ -87,9 +79,7 @@ fn put_remuxed<K: Sink>(alloc: Global, sink: &mut K, file: Vec<u8>) -> Result<bo
         (K.written sink.old) (K.written sink.new)) }
     ensures err { OnErr result (IsFrontWritten (remux_pieces file.items)
         (K.written sink.old) (K.written sink.new)) }
-    ensures no_fewer_faults { K.faults sink.old ≤ K.faults sink.new }
-    ensures cause { IsErrOf result Halt.Write → HasRisen (K.faults sink.old) (K.faults sink.new) }
-    ensures failures_told { ¬ IsErrOf result Halt.Write → K.faults sink.new ≡ K.faults sink.old }
+    ensures puts { AreFailuresTold Halt.Write (K.faults sink.old) (K.faults sink.new) result }
 {
     let Ok(bytes) = Bytes::from_vec(alloc, file) else {
         return Err(Halt::Memory);
@@ -125,14 +115,8 @@ pub fn run_remux<L: Library, K: Sink>(
         (outside_of (L.faults library.new) (K.written sink.new) told given))
         result) }
     ensures words { ¬ IsErrOf result End.Words }
-    ensures no_fewer_read_faults { L.faults library.old ≤ L.faults library.new }
-    ensures no_fewer_faults { K.faults sink.old ≤ K.faults sink.new }
-    ensures write { IsErrOf result End.Write → HasRisen (K.faults sink.old) (K.faults sink.new) }
-    ensures failed_puts_told { ¬ IsErrOf result End.Write → K.faults sink.new ≡ K.faults sink.old }
-    ensures read { (name : List ℕ) → IsErrOf result (End.Read name)
-        → HasRisen (L.faults library.old) (L.faults library.new) }
-    ensures failed_loads_told { ¬ IsErrAnd result IsEndOfFailedLoad
-        → L.faults library.new ≡ L.faults library.old }
+    ensures puts { AreFailuresTold End.Write (K.faults sink.old) (K.faults sink.new) result }
+    ensures loads { AreFailedLoadsTold (L.faults library.old) (L.faults library.new) result }
     ensures failed_load { (other : List ℕ) → IsErrOf result (End.Read other)
         → HasRequestOfCommand (L.table library.old) name.now (Some Command.Remux) (λ request.
         IsFailedLoad L.load_gives request.names other library.old library.new) }

@@ -1,6 +1,6 @@
 //! The top call.
 
-ghost use Rattle.std.specs.Prelude.{◌≡◌, ◌≢◌, ◌≤◌, ◌<◌, ◌⊎◌, ◌^◌, ℕ, List, [], None, Some, IfSome, Ok, map, string_bytes, vec_len};
+ghost use Rattle.std.specs.Prelude.{◌≡◌, ◌≢◌, ◌<◌, ◌^◌, ℕ, List, [], None, Some, IfSome, Ok, map, string_bytes, vec_len};
 ghost use Rattle.call_script.specs.declared.script.Script.{Script};
 ghost use Rattle.listeners.specs.Dispatch.{notes_at};
 ghost use Rattle.listeners.specs.Ways.{AreByWay, Way};
@@ -11,7 +11,7 @@ ghost use Rattle.mse_commands.specs.Ends.{IsJournalBy, IsOutputBy};
 ghost use Rattle.mse_commands.specs.Loads.{failures};
 ghost use Rattle.mse_commands.specs.Outcomes.{IsEndOfRun, outcome_at};
 ghost use Rattle.mse_commands.specs.Program.{script_played, program_of};
-ghost use Rattle.mse_commands.specs.Says.{IsEndSaid, IsFailedLoadSaid, IsLineSaid};
+ghost use Rattle.mse_commands.specs.Says.{AreFailedPutsSaid, IsEndSaid, IsFailedLoadSaid, IsLineSaid};
 ghost use Rattle.mse_commands.specs.Words.{command_of};
 
 use crate::commands::work;
@@ -29,10 +29,7 @@ use track_store::FrameStore;
 #[tactic(auto, using(script_run::proofs::PutLines::front_none))]
 fn say_line<K: Sink>(alloc: Global, sink: &mut K, end: &End) -> Status
     ensures said { IsLineSaid end.now (K.written sink.old) (K.written sink.new) result }
-    ensures write { result ≡ Status.Write
-        → (end.now ≡ End.Write) ⊎ HasRisen (K.faults sink.old) (K.faults sink.new) }
-    ensures no_fewer_faults { K.faults sink.old ≤ K.faults sink.new }
-    ensures failures_told { result ≢ Status.Write → K.faults sink.new ≡ K.faults sink.old }
+    ensures puts { AreFailedPutsSaid end.now (K.faults sink.old) (K.faults sink.new) result }
 {
     let Ok(line) = error_line_for(alloc, end) else {
         return Status::Memory;
@@ -46,10 +43,7 @@ fn say_line<K: Sink>(alloc: Global, sink: &mut K, end: &End) -> Status
 /// Says why a run ended early. After want of memory and a failed put nothing is put.
 fn say<K: Sink>(alloc: Global, sink: &mut K, end: &End) -> Status
     ensures says { IsEndSaid end.now (K.written sink.old) (K.written sink.new) result }
-    ensures write { result ≡ Status.Write
-        → (end.now ≡ End.Write) ⊎ HasRisen (K.faults sink.old) (K.faults sink.new) }
-    ensures no_fewer_faults { K.faults sink.old ≤ K.faults sink.new }
-    ensures failures_told { result ≢ Status.Write → K.faults sink.new ≡ K.faults sink.old }
+    ensures puts { AreFailedPutsSaid end.now (K.faults sink.old) (K.faults sink.new) result }
 {
     match end {
         End::Memory => Status::Memory,

@@ -20,12 +20,14 @@ use Rattle.mse_engine.specs.Work.{fire_result, without_first}
 use Rattle.mse_engine.specs.Transitions.{IsTransition}
 use Rattle.mse_engine.proofs.Transitions.{goes_then}
 use Rattle.call_script.specs.declared.script.StepLine.TheVariants.{Fire}
+use Rattle.script_run.specs.declared.stop.Halt.{Halt}
+use Rattle.script_run.specs.declared.stop.Halt.TheVariants as halt
 use Rattle.script_run.specs.declared.stop.Stop.{Stop}
 use Rattle.script_run.specs.declared.stop.Stop.TheVariants.{Memory, Write}
 use Rattle.script_run.specs.DrainSteps.{AreInDrainOrder, HasNoEvent}
 use Rattle.script_run.specs.Lines.{IsLineFront, IsLineEntries, own_of}
 use Rattle.script_run.specs.RunParts.{EntryRelation}
-use Rattle.script_run.specs.PlayedParts.{IsDispatchCut, HasGrown, IsHeardUpTo, IsPlayedInLine, IsPlayedInLineUpTo, IsOwnStep, IsWrittenToLastStep, IsWrittenUpTo, stop_of}
+use Rattle.script_run.specs.PlayedParts.{IsDispatchCut, HasGrown, IsHeardUpTo, IsPlayedInLine, IsPlayedInLineUpTo, IsOwnStep, IsWrittenToLastStep, IsWrittenUpTo, stop_of, stop_of_halt}
 use Rattle.script_run.specs.RunStates.{run_at}
 use Rattle.script_run.specs.NoteHistory.{IsAllHeard, note_history, entries_until_event}
 use Rattle.script_run.specs.Text.{lines_of}
@@ -217,7 +219,7 @@ half_of es t0 t1 (Err (fault.CallBudget k)) not w = w
 half_of es t0 t1 (Err fault.TaskBudget) not w = w
 
 -- there was no memory for its lines
-pub fired_short : (blobs : List (List ℕ)) (event : Event) (a b c : RunView) (t0 t1 : SinkView) (n0 n1 : List (List Note)) (result : Result (Unit {0}) DispatchFault)
+fired_short : (blobs : List (List ℕ)) (event : Event) (a b c : RunView) (t0 t1 : SinkView) (n0 n1 : List (List Note)) (result : Result (Unit {0}) DispatchFault)
     → IsOwnStep blobs (Fired event ∷ []) a b → IsDispatch blobs event (dispatch_view b n0) (dispatch_view c n1) result → length n1 ≡ length n0
     → IsFrontWritten (lines_of (drop (length a.entries) c.entries)) t0 t1 → IsShortOf (lines_of (drop (length a.entries) c.entries)) t0 t1
     → IsPlayedInLineUpTo blobs (λ st part. IsLineFront blobs st Fire part) Memory (run_at a t0 n0) (run_at c t1 n1)
@@ -227,7 +229,7 @@ fired_short blobs event a b c t0 t1 n0 n1 result step d same wrote short =
     (short_of (Fired event ∷ d.entries) t0 t1 (fault_of result) (last_event blobs event a b c t0 t1 n0 n1 result d (rw lines at wrote)) (rw lines at short))
 
 -- the sink failed to take them
-pub fired_half : (blobs : List (List ℕ)) (event : Event) (a b c : RunView) (t0 t1 : SinkView) (n0 n1 : List (List Note)) (result : Result (Unit {0}) DispatchFault)
+fired_half : (blobs : List (List ℕ)) (event : Event) (a b c : RunView) (t0 t1 : SinkView) (n0 n1 : List (List Note)) (result : Result (Unit {0}) DispatchFault)
     → ¬ (result ≡ Err fault.OutOfMemory) → IsOwnStep blobs (Fired event ∷ []) a b
     → IsDispatch blobs event (dispatch_view b n0) (dispatch_view c n1) result → length n1 ≡ length n0
     → IsFrontWritten (lines_of (drop (length a.entries) c.entries)) t0 t1 → IsPlayedInLineUpTo blobs (λ st part. IsLineFront blobs st Fire part) Write (run_at a t0 n0) (run_at c t1 n1)
@@ -235,6 +237,15 @@ fired_half blobs event a b c t0 t1 n0 n1 result not step d same wrote =
     let lines : drop (length a.entries) c.entries ≡ Fired event ∷ d.entries = fired_lines event a.entries b.entries c.entries d.entries step.grew d.calls.journal in
     fired_up_to blobs event Write a b c t0 t1 n0 n1 result step d same
     (half_of (Fired event ∷ d.entries) t0 t1 result not (last_event blobs event a b c t0 t1 n0 n1 result d (rw lines at wrote)))
+
+-- a put of them halted
+pub fired_halted : (blobs : List (List ℕ)) (event : Event) (h : Halt) (a b c : RunView) (t0 t1 : SinkView) (n0 n1 : List (List Note)) (result : Result (Unit {0}) DispatchFault)
+    → ¬ (result ≡ Err fault.OutOfMemory) → IsOwnStep blobs (Fired event ∷ []) a b
+    → IsDispatch blobs event (dispatch_view b n0) (dispatch_view c n1) result → length n1 ≡ length n0
+    → IsFrontWritten (lines_of (drop (length a.entries) c.entries)) t0 t1 → (h ≡ halt.Memory → IsShortOf (lines_of (drop (length a.entries) c.entries)) t0 t1)
+    → IsPlayedInLineUpTo blobs (λ st part. IsLineFront blobs st Fire part) (stop_of_halt h) (run_at a t0 n0) (run_at c t1 n1)
+fired_halted blobs event halt.Memory a b c t0 t1 n0 n1 result not step d same wrote short = fired_short blobs event a b c t0 t1 n0 n1 result step d same wrote (short refl)
+fired_halted blobs event halt.Write a b c t0 t1 n0 n1 result not step d same wrote short = fired_half blobs event a b c t0 t1 n0 n1 result not step d same wrote
 
 -- memory was wanting in the dispatch, and none of its lines was written
 pub fired_unheard : (blobs : List (List ℕ)) (event : Event) (a b c : RunView) (t : SinkView) (n0 n1 : List (List Note))

@@ -13,11 +13,13 @@ use Rattle.mse_engine.specs.Transitions.{IsTransition}
 use Rattle.mse_engine.proofs.Transitions.{goes_none, goes_then}
 use Rattle.listeners.specs.declared.event_dispatch.DispatchFault.{DispatchFault}
 use Rattle.listeners.specs.declared.event_dispatch.DispatchFault.TheVariants as fault
+use Rattle.script_run.specs.declared.stop.Halt.{Halt}
+use Rattle.script_run.specs.declared.stop.Halt.TheVariants as halt
 use Rattle.script_run.specs.declared.stop.Stop.{Stop}
 use Rattle.script_run.specs.declared.stop.Stop.TheVariants.{Memory, Write, CallBudget, TaskBudget}
 use Rattle.listeners.specs.Views.{RunView}
 use Rattle.script_run.specs.RunParts.{EntryRelation}
-use Rattle.script_run.specs.PlayedParts.{HasGrown, IsPlayed, IsPlayedUpTo, IsPlayedInLine, IsPlayedInLineUpTo, IsStoppedBy, IsHeardUpTo, IsOneStepAtMost, IsWrittenToLastStep, IsWrittenUpTo, part_front}
+use Rattle.script_run.specs.PlayedParts.{HasGrown, IsPlayed, IsPlayedUpTo, IsPlayedInLine, IsPlayedInLineUpTo, IsStoppedBy, IsHeardUpTo, IsOneStepAtMost, IsWrittenToLastStep, IsWrittenUpTo, part_front, stop_of_halt}
 use Rattle.script_run.specs.RunStates.{OutsideView, RunState, outside_in}
 use Rattle.script_run.specs.NoteHistory.{IsAllHeard}
 use Rattle.script_run.specs.Text.{lines_of, lines_of_entry}
@@ -159,6 +161,10 @@ memory_wanting = λ es t0 t1 w. w
 
 pub sink_wanting : IsWanting Write
 sink_wanting = λ es t0 t1 w. w
+
+pub halt_wanting : (h : Halt) → IsWanting (stop_of_halt h)
+halt_wanting halt.Memory = memory_wanting
+halt_wanting halt.Write = sink_wanting
 
 pub stopped_none : (calls_left : CallsLeft) (stop : Stop) (a : OutsideView) → IsWanting stop → IsStoppedBy calls_left stop [] a a
 stopped_none calls_left stop a wanting = record {

@@ -14,6 +14,13 @@ pub record AreListenersKept {A K : Type 0} (kind : A → K) (way : A → Option 
   pub rules_are : map rules new ≡ map rules old
   pub by_way : AreByWay way rules notes old → AreByWay way rules notes new
 
+-- Each listener stays at its place with its kind and its way, and did what its way gives.
+pub record AreListenersInPlace {A K : Type 0} (kind : A → K) (way : A → Option Way)
+    (rules : A → List Rule) (notes : A → List Note) (old new : List A) : Type 0 where
+  pub kinds : map kind new ≡ map kind old
+  pub ways : map way new ≡ map way old
+  pub by_way : AreByWay way rules notes new
+
 -- A sink's count of failures never falls: it rose, or stands at its end, where the result is this failure, and else it
 -- stayed.
 pub record AreFailuresTold {T E : Type 0} (failure : E) (old new : ℕ)

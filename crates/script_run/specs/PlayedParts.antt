@@ -15,6 +15,8 @@ use Rattle.event_text.specs.Lines.{line_text}
 use Rattle.mse_engine.specs.State.{State}
 use Rattle.mse_engine.specs.Standing.{Stands}
 use Rattle.mse_engine.specs.Transitions.{IsTransition}
+use Rattle.script_run.specs.declared.stop.Halt.{Halt}
+use Rattle.script_run.specs.declared.stop.Halt.TheVariants as halt
 use Rattle.script_run.specs.declared.stop.Stop.{Stop}
 use Rattle.script_run.specs.declared.stop.Stop.TheVariants.{Memory, Write, CallBudget, TaskBudget}
 use Rattle.script_run.specs.RunParts.{RunPart, EntryRelation}
@@ -103,6 +105,11 @@ pub record IsWrittenToLastStep (entries : List Entry) (old new : SinkView) : Typ
   pub entries_are : entries ≡ before ++ last
   pub one_step : IsOneStepAtMost last
   pub wrote : IsFrontWrittenBehind (lines_of before) (lines_of last) old new
+
+-- the stop that the want of memory or of the sink is
+abbrev pub stop_of_halt : Halt → Stop
+stop_of_halt halt.Memory = Memory
+stop_of_halt halt.Write = Write
 
 -- the stop that a fault of a dispatch is
 abbrev pub stop_of : DispatchFault → Stop

@@ -1,10 +1,9 @@
 //! A drain.
 
-ghost use Rattle.std.specs.Prelude.{◌≡◌, ◌≤◌, ◌<◌, ◌^◌, Ok, true, false, IsErrOf, map, vec_len};
+ghost use Rattle.std.specs.Prelude.{◌≡◌, ◌<◌, ◌^◌, Ok, true, false, map, vec_len};
 ghost use Rattle.call_script.specs.declared.script.StepLine.{StepLine};
 ghost use Rattle.mse_engine.specs.State.{State};
 ghost use Rattle.mse_engine.specs.Standing.{Stands};
-ghost use Rattle.mse_outside.specs.Outside.{HasRisen};
 ghost use Rattle.script_run.specs.RunParts.{line_part, drain_part};
 ghost use Rattle.script_run.specs.DrainSteps.{IsAtRest, IsQuiet, HasNoEvent};
 ghost use Rattle.script_run.specs.Progress.{IsCalm, HasFewerEvents};
@@ -14,7 +13,7 @@ ghost use Rattle.script_run.specs.RunStates.{run_at};
 
 use crate::put::put_entries;
 use crate::run::ScriptRun;
-use crate::stop::{Halt, Stop, is_out_of_memory};
+use crate::stop::{Stop, is_out_of_memory};
 use listeners::{Listener, dispatch};
 use mse_calls::Blobs;
 use mse_outside::Sink;
@@ -41,8 +40,7 @@ impl<S: FrameStore> ScriptRun<S> {
         ensures none { result ≡ Ok false → self.new ≡ self.old }
         ensures empty { result ≡ Ok false → (st : State) → Stands self.old.engine st →
             HasNoEvent st }
-        ensures failures { AreFailuresTold Stop.Write (K.faults sink.old) (K.faults sink.new)
-            result }
+        ensures puts { AreFailuresTold Stop.Write (K.faults sink.old) (K.faults sink.new) result }
     {
         let from = self.journal.len();
         let Ok(next_event) = self.take_event() else {
@@ -64,8 +62,7 @@ impl<S: FrameStore> ScriptRun<S> {
         }
         match put_entries(self.alloc, sink, &self.journal, from) {
             Ok(()) => {}
-            Err(Halt::Memory) => return Err(Stop::Memory),
-            Err(Halt::Write) => return Err(Stop::Write),
+            Err(halt) => return Err(Stop::of_halt(halt)),
         }
         match outcome {
             Ok(()) => {}
@@ -93,8 +90,7 @@ impl<S: FrameStore> ScriptRun<S> {
         ensures nothing_left { result ≡ Ok true → (st : State) → Stands self.new.engine st
             → HasNoEvent st }
         ensures called { result ≡ Ok false → self.new.left < self.old.left }
-        ensures failures { AreFailuresTold Stop.Write (K.faults sink.old) (K.faults sink.new)
-            result }
+        ensures puts { AreFailuresTold Stop.Write (K.faults sink.old) (K.faults sink.new) result }
     {
         let before = self.left;
         'firing: loop {
@@ -127,8 +123,7 @@ impl<S: FrameStore> ScriptRun<S> {
         ensures nothing_left { result ≡ Ok true → (st : State) → Stands self.new.engine st
             → IsQuiet st }
         ensures called { result ≡ Ok false → self.new.left < self.old.left }
-        ensures failures { AreFailuresTold Stop.Write (K.faults sink.old) (K.faults sink.new)
-            result }
+        ensures puts { AreFailuresTold Stop.Write (K.faults sink.old) (K.faults sink.new) result }
     {
         'working: loop {
             match self.fire_all(blobs, sink, listeners) {
@@ -147,16 +142,15 @@ impl<S: FrameStore> ScriptRun<S> {
         }
     }
 
-    /// Takes turns of the element that are due, and fires, until nothing is left, or until a
-    /// listener has made a call.
-    fn turn_all<K: Sink>(
+    /// Fires, works and takes turns of the element until nothing is left to do, or until a listener has
+    /// made a call.
+    fn finish_work<K: Sink>(
         &mut self,
         blobs: &Blobs,
         sink: &mut K,
         listeners: &mut Vec<Box<dyn Listener>>,
     ) -> Result<bool, Stop>
-        requires quiet { (st : State) → Stands self.old.engine st → IsQuiet st }
-        requires listeners { vec_len listeners.old < 2 ^ 32 }
+        requires { vec_len listeners.old < 2 ^ 32 }
         ensures count { vec_len listeners.new ≡ vec_len listeners.old }
         ensures listeners { AreListenersKept (λ b. b.vtable) way rules notes listeners.old.items
             listeners.new.items }
@@ -166,9 +160,13 @@ impl<S: FrameStore> ScriptRun<S> {
         ensures nothing_left { result ≡ Ok true → (st : State) → Stands self.new.engine st
             → IsAtRest st }
         ensures called { result ≡ Ok false → self.new.left < self.old.left }
-        ensures failures { AreFailuresTold Stop.Write (K.faults sink.old) (K.faults sink.new)
-            result }
+        ensures puts { AreFailuresTold Stop.Write (K.faults sink.old) (K.faults sink.new) result }
     {
+        match self.work_all(blobs, sink, listeners) {
+            Err(stop) => return Err(stop),
+            Ok(false) => return Ok(false),
+            Ok(true) => {}
+        }
         'turning: loop {
             // The proof reads off this that there is a state that the engine stands for.
             self.engine.sound();
@@ -186,37 +184,6 @@ impl<S: FrameStore> ScriptRun<S> {
         }
     }
 
-    /// Does all that is left, or stops short where a listener has made a call, which answers false.
-    fn finish_work<K: Sink>(
-        &mut self,
-        blobs: &Blobs,
-        sink: &mut K,
-        listeners: &mut Vec<Box<dyn Listener>>,
-    ) -> Result<bool, Stop>
-        requires { vec_len listeners.old < 2 ^ 32 }
-        ensures count { vec_len listeners.new ≡ vec_len listeners.old }
-        ensures listeners { AreListenersKept (λ b. b.vtable) way rules notes listeners.old.items
-            listeners.new.items }
-        ensures ran { IsPlayedInLineBy (drain_part blobs.now)
-            (run_at self.old (K.written sink.old) (map (λ b. notes b) listeners.old.items))
-            (run_at self.new (K.written sink.new) (map (λ b. notes b) listeners.new.items)) result }
-        ensures nothing_left { result ≡ Ok true → (st : State) → Stands self.new.engine st
-            → IsAtRest st }
-        ensures called { result ≡ Ok false → self.new.left < self.old.left }
-        ensures failures { AreFailuresTold Stop.Write (K.faults sink.old) (K.faults sink.new)
-            result }
-    {
-        match self.work_all(blobs, sink, listeners) {
-            Err(stop) => return Err(stop),
-            Ok(false) => return Ok(false),
-            Ok(true) => {}
-        }
-        match self.turn_all(blobs, sink, listeners) {
-            Err(stop) => Err(stop),
-            Ok(is_done) => Ok(is_done),
-        }
-    }
-
     /// Fires, works and takes turns until there is nothing left to do.
     pub(crate) fn drain<K: Sink>(
         &mut self,
@@ -231,8 +198,7 @@ impl<S: FrameStore> ScriptRun<S> {
         ensures ran { IsPlayedInLineBy (line_part blobs.now StepLine.Drain)
             (run_at self.old (K.written sink.old) (map (λ b. notes b) listeners.old.items))
             (run_at self.new (K.written sink.new) (map (λ b. notes b) listeners.new.items)) result }
-        ensures failures { AreFailuresTold Stop.Write (K.faults sink.old) (K.faults sink.new)
-            result }
+        ensures puts { AreFailuresTold Stop.Write (K.faults sink.old) (K.faults sink.new) result }
     {
         'draining: loop {
             match self.finish_work(blobs, sink, listeners) {

@@ -1,15 +1,13 @@
 //! The lines of a script.
 
-ghost use Rattle.std.specs.Prelude.{◌≡◌, ◌≤◌, ◌<◌, ◌^◌, OnOk, OnErr, IsErrOf, length, map, vec_len};
+ghost use Rattle.std.specs.Prelude.{◌≡◌, ◌<◌, ◌^◌, OnOk, OnErr, length, map, vec_len};
 ghost use Rattle.call_script.specs.declared.script.StepLine.{StepLine};
-ghost use Rattle.mse_outside.specs.Outside.{HasRisen};
 ghost use Rattle.script_run.specs.RunParts.{line_part, numbered_line_part, script_part};
 ghost use Rattle.script_run.specs.Lines.{limits, play_inputs};
 ghost use Rattle.script_run.specs.PlayedParts.{IsCallHalted, IsCallMade, IsPlayedBy, IsPlayedInLineBy};
 ghost use Rattle.script_run.specs.Keeps.{AreFailuresTold, AreListenersKept};
 ghost use Rattle.script_run.specs.RunStates.{printed_run, run_at};
 ghost use Rattle.script_run.specs.Turns.{HasCallsLeftInLine};
-ghost use Rattle.listeners.specs.Ways.{AreByWay};
 
 use crate::put::put_entries;
 use crate::run::ScriptRun;
@@ -34,8 +32,7 @@ impl<S: FrameStore> ScriptRun<S> {
         ensures err { OnErr result (IsCallHalted blobs.now call.now
             (printed_run self.old (K.written sink.old))
             (printed_run self.new (K.written sink.new))) }
-        ensures failures { AreFailuresTold Halt.Write (K.faults sink.old) (K.faults sink.new)
-            result }
+        ensures puts { AreFailuresTold Halt.Write (K.faults sink.old) (K.faults sink.new) result }
     {
         let from = self.journal.len();
         let Ok(()) = self.call(blobs, call) else {
@@ -59,14 +56,12 @@ impl<S: FrameStore> ScriptRun<S> {
         ensures ran { IsPlayedInLineBy (line_part blobs.now line.now)
             (run_at self.old (K.written sink.old) (map (λ b. notes b) listeners.old.items))
             (run_at self.new (K.written sink.new) (map (λ b. notes b) listeners.new.items)) result }
-        ensures failures { AreFailuresTold Stop.Write (K.faults sink.old) (K.faults sink.new)
-            result }
+        ensures puts { AreFailuresTold Stop.Write (K.faults sink.old) (K.faults sink.new) result }
     {
         match line {
             StepLine::Call(call) => match self.call_and_print(blobs, sink, call) {
                 Ok(()) => Ok(()),
-                Err(Halt::Memory) => Err(Stop::Memory),
-                Err(Halt::Write) => Err(Stop::Write),
+                Err(halt) => Err(Stop::of_halt(halt)),
             },
             StepLine::Fire => match self.fire(blobs, sink, listeners) {
                 Ok(_) => Ok(()),
@@ -102,8 +97,7 @@ impl<S: FrameStore> ScriptRun<S> {
             (play_inputs blobs.now (limits limit (vec_len listeners.old))) n line.now)
             (run_at self.old (K.written sink.old) (map (λ b. notes b) listeners.old.items))
             (run_at self.new (K.written sink.new) (map (λ b. notes b) listeners.new.items)) result }
-        ensures failures { AreFailuresTold Stop.Write (K.faults sink.old) (K.faults sink.new)
-            result }
+        ensures puts { AreFailuresTold Stop.Write (K.faults sink.old) (K.faults sink.new) result }
     {
         match self.open_line(n, limit) {
             Ok(()) => self.do_line(blobs, sink, listeners, line),
@@ -129,22 +123,13 @@ impl<S: FrameStore> ScriptRun<S> {
         requires lines { length lines.now < 2 ^ 32 }
         requires listeners { vec_len listeners.old < 2 ^ 32 }
         ensures count { vec_len listeners.new ≡ vec_len listeners.old }
-        ensures kinds { map (λ b. b.vtable) listeners.new.items
-            ≡ map (λ b. b.vtable) listeners.old.items }
-        ensures ways { map (λ b. way b) listeners.new.items ≡ map (λ b. way b) listeners.old.items }
-        ensures by_way { AreByWay way rules notes listeners.old.items
-            → AreByWay way rules notes listeners.new.items }
-        ensures rules { map (λ b. rules b) listeners.new.items
-            ≡ map (λ b. rules b) listeners.old.items }
+        ensures listeners { AreListenersKept (λ b. b.vtable) way rules notes listeners.old.items
+            listeners.new.items }
         ensures played { IsPlayedBy (HasCallsLeftInLine limit) (script_part blobs.now
             (limits limit (vec_len listeners.old)) lines.now)
             (run_at self.old (K.written sink.old) (map (λ b. notes b) listeners.old.items))
             (run_at self.new (K.written sink.new) (map (λ b. notes b) listeners.new.items)) result }
-        ensures no_fewer_faults { K.faults sink.old ≤ K.faults sink.new }
-        ensures cause { IsErrOf result Stop.Write
-            → HasRisen (K.faults sink.old) (K.faults sink.new) }
-        ensures failures_told { ¬ IsErrOf result Stop.Write
-            → K.faults sink.new ≡ K.faults sink.old }
+        ensures puts { AreFailuresTold Stop.Write (K.faults sink.old) (K.faults sink.new) result }
     {
         for n in 0..lines.len() {
             match self.play_line(blobs, sink, listeners, limit, n as u32, &lines[n]) {

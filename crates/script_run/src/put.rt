@@ -1,7 +1,6 @@
 //! Lines for the sink.
 
 ghost use Rattle.std.specs.Prelude.{◌≡◌, ◌≤◌, ◌<◌, [], ◌∷◌, length, drop, option_to_list, IfOk, OnOk, OnErr, IsErrOf};
-ghost use Rattle.mse_outside.specs.Outside.{HasRisen};
 ghost use Rattle.event_text.specs.Lines.{line_text};
 ghost use Rattle.run_journal.specs.EntryRef.{entry_of};
 ghost use Rattle.script_run.specs.Keeps.{AreFailuresTold};
@@ -37,9 +36,7 @@ pub fn put_bytes<K: Sink>(sink: &mut K, bytes: &[u8]) -> Result<(), Halt>
         (K.written sink.new)) }
     ensures short { IsErrOf result Halt.Memory → 0 < length bytes.now
         → IsShortOf (bytes.now ∷ []) (K.written sink.old) (K.written sink.new) }
-    ensures no_fewer_faults { K.faults sink.old ≤ K.faults sink.new }
-    ensures cause { IsErrOf result Halt.Write → HasRisen (K.faults sink.old) (K.faults sink.new) }
-    ensures failures_told { ¬ IsErrOf result Halt.Write → K.faults sink.new ≡ K.faults sink.old }
+    ensures puts { AreFailuresTold Halt.Write (K.faults sink.old) (K.faults sink.new) result }
 {
     halt_of(sink.put(bytes))
 }
@@ -51,15 +48,10 @@ pub fn put_lines<K: Sink>(sink: &mut K, text: &str) -> Result<(), Halt>
         (K.written sink.new)) }
     ensures err { OnErr result (IsFrontWritten (lines_in text.now) (K.written sink.old)
         (K.written sink.new)) }
-    ensures no_fewer_faults { K.faults sink.old ≤ K.faults sink.new }
-    ensures cause { IsErrOf result Halt.Write → HasRisen (K.faults sink.old) (K.faults sink.new) }
-    ensures failures_told { ¬ IsErrOf result Halt.Write → K.faults sink.new ≡ K.faults sink.old }
+    ensures puts { AreFailuresTold Halt.Write (K.faults sink.old) (K.faults sink.new) result }
 {
     for line in text.split_inclusive('\n') {
-        match put_bytes(sink, line.as_bytes()) {
-            Ok(()) => {}
-            Err(halt) => return Err(halt),
-        }
+        put_bytes(sink, line.as_bytes())?;
     }
     Ok(())
 }
@@ -89,7 +81,7 @@ fn put_entry<K: Sink>(alloc: Global, sink: &mut K, entry: &EntryRef<'_>) -> Resu
         (K.written sink.old) (K.written sink.new)) }
     ensures short { IsErrOf result Halt.Memory → IsShortOf (lines_of_entry (entry_of entry.now))
         (K.written sink.old) (K.written sink.new) }
-    ensures failures { AreFailuresTold Halt.Write (K.faults sink.old) (K.faults sink.new) result }
+    ensures puts { AreFailuresTold Halt.Write (K.faults sink.old) (K.faults sink.new) result }
 {
     match entry_line(alloc, entry) {
         Ok(Some(line)) => put_bytes(sink, line.as_str().as_bytes()),
@@ -113,16 +105,13 @@ pub(crate) fn put_entries<K: Sink>(
     ensures short { IsErrOf result Halt.Memory
         → IsShortOf (lines_of (drop from journal.now.entries))
         (K.written sink.old) (K.written sink.new) }
-    ensures failures { AreFailuresTold Halt.Write (K.faults sink.old) (K.faults sink.new) result }
+    ensures puts { AreFailuresTold Halt.Write (K.faults sink.old) (K.faults sink.new) result }
 {
     for i in from..journal.len() {
         let Some(entry) = journal.get(i) else {
             unreachable!()
         };
-        match put_entry(alloc, sink, &entry) {
-            Ok(()) => {}
-            Err(halt) => return Err(halt),
-        }
+        put_entry(alloc, sink, &entry)?;
     }
     Ok(())
 }

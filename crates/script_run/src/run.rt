@@ -75,12 +75,8 @@ impl<S: FrameStore> ScriptRun<S> {
             × IsOwnStep blobs.now (Entry.Script call.now answer ∷ []) self.old self.new) }
         ensures err { OnErr result (self.new ≡ self.old) }
     {
-        let Ok(()) = self.journal.reserve(1) else {
-            return Err(OutOfMemory);
-        };
-        let Ok(copy) = call.copy() else {
-            return Err(OutOfMemory);
-        };
+        self.journal.reserve(1)?;
+        let copy = call.copy()?;
         let Ok(answer) = self.engine.call(call, blobs) else {
             return Err(OutOfMemory);
         };
@@ -99,9 +95,7 @@ impl<S: FrameStore> ScriptRun<S> {
     {
         // The proof reads off this that there is a state that the engine stands for.
         self.engine.sound();
-        let Ok(()) = self.journal.reserve(1) else {
-            return Err(OutOfMemory);
-        };
+        self.journal.reserve(1)?;
         match self.engine.work(k) {
             Ok(Worked::Did) => {
                 self.journal.push_work_reserved(k);
@@ -122,9 +116,7 @@ impl<S: FrameStore> ScriptRun<S> {
     {
         // The proof reads off this that there is a state that the engine stands for.
         self.engine.sound();
-        let Ok(()) = self.journal.reserve(1) else {
-            return Err(OutOfMemory);
-        };
+        self.journal.reserve(1)?;
         match self.engine.element_turn() {
             Ok(Worked::Did) => {
                 self.journal.push_reserved(Entry::Element);
@@ -161,9 +153,7 @@ impl<S: FrameStore> ScriptRun<S> {
     {
         // The proof reads off this that there is a state that the engine stands for.
         self.engine.sound();
-        let Ok(()) = self.journal.reserve(1) else {
-            return Err(OutOfMemory);
-        };
+        self.journal.reserve(1)?;
         let Some(event) = self.engine.fire() else {
             return Ok(None);
         };
@@ -181,9 +171,7 @@ impl<S: FrameStore> ScriptRun<S> {
     {
         // The proof reads off this that the engine is sound, and that it stands for a state.
         self.engine.sound();
-        let Ok(()) = self.journal.reserve(1) else {
-            return Err(OutOfMemory);
-        };
+        self.journal.reserve(1)?;
         self.journal.push_reserved(Entry::Step(n));
         self.left = limit;
         Ok(())

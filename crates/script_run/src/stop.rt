@@ -1,7 +1,7 @@
 //! Why a run stops.
 
 ghost use Rattle.std.specs.Prelude.{◌≡◌, ◌↔◌, Err, true};
-ghost use Rattle.script_run.specs.PlayedParts.{stop_of};
+ghost use Rattle.script_run.specs.PlayedParts.{stop_of, stop_of_halt};
 
 use listeners::DispatchFault;
 
@@ -28,6 +28,16 @@ pub enum Stop {
 }
 
 impl Stop {
+    /// The stop that the want of memory or of the sink is.
+    pub(crate) fn of_halt(halt: Halt) -> Stop
+        ensures { result ≡ stop_of_halt halt }
+    {
+        match halt {
+            Halt::Memory => Stop::Memory,
+            Halt::Write => Stop::Write,
+        }
+    }
+
     /// The stop that a fault of a dispatch is.
     pub(crate) fn of(fault: DispatchFault) -> Stop
         ensures { result ≡ stop_of fault }

@@ -1,4 +1,4 @@
-use Rattle.std.proofs.Common.{arith, ◌∙◌, refl}
+use Rattle.std.proofs.Common.{◌∙◌, refl}
 use Rattle.track_store.specs.State.{state_of}
 use Rattle.feed_lines.proofs.PutLines.{ends_by, given_failed, group_put, no_frame_shown, no_group_yet, none_by, wanted_failed, wanted_frame}
 use Rattle.feed_lines.proofs.Progress.{goes_on}
@@ -8,7 +8,6 @@ use Rattle.feed_lines.proofs.put.put_feeds.Goals as goal
 pub feeding-init : goal.feeding-init
 feeding-init g c = record {
   feeding = no_group_yet c.args.from (state_of g.S.FrameStore.frames c.args.track.now) (g.K.Sink.written c.args.sink.now) c.requires;
-  no_fewer_faults = omega arith;
   same_faults = refl;
 }
 
@@ -36,8 +35,7 @@ feeding-preserved g c =
     let t = state_of g.S.FrameStore.frames c.args.track.now in
     let wanted = wanted_frame c.in-Some.serial _ c.in-Some.ensures.wanted in record {
       feeding = group_put c.args.from c.feeding.at c.in-Ok-put_given.end t wanted.0 _ _ _ _ c.requires wanted.1 c.feeding.invariant.feeding (rw wanted.2 at c.in-Ok.ensures.ok) c.in-Ok-put_given.ensures.ok c.in-Ok-put_given.ensures.end;
-      no_fewer_faults = omega (arith, c.feeding.invariant.no_fewer_faults, c.put_wanted.ensures.no_fewer_faults, c.put_given.ensures.no_fewer_faults);
-      same_faults = c.in-Ok-put_given.ensures.failures_told (gone_through _ _) ∙ c.in-Ok.ensures.failures_told (gone_through _ _) ∙ c.feeding.invariant.same_faults;
+      same_faults = c.in-Ok-put_given.ensures.puts.told (gone_through _ _) ∙ c.in-Ok.ensures.puts.told (gone_through _ _) ∙ c.feeding.invariant.same_faults;
     }
 
 pub returns-in-Err-put_given-clause-err : goal.returns-in-Err-put_given-clause-err

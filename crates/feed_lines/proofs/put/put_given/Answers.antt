@@ -1,4 +1,4 @@
-use Rattle.std.proofs.Common.{◌∙◌, sym, arith, refl}
+use Rattle.std.proofs.Common.{◌∙◌, sym, refl}
 use Rattle.track_store.specs.Frames.{IsTimed}
 use Rattle.track_store.specs.State.{state_of}
 use Rattle.track_store.proofs.ClearedLists.{each_at}
@@ -9,7 +9,6 @@ use Rattle.feed_lines.proofs.put.put_given.Goals as goal
 pub giving-init : goal.giving-init
 giving-init g c = record {
   giving = none_yet c.args.at (state_of g.S.FrameStore.frames c.args.track.now) c.args.feeder.now (g.K.Sink.written c.args.sink.now) c.requires.sought;
-  no_fewer_faults = omega arith;
   same_faults = refl;
 }
 
@@ -23,8 +22,7 @@ end-requires g c = (each_at IsTimed (g.S.FrameStore.frames c.args.track.now.stor
 pub giving-preserved : goal.giving-preserved
 giving-preserved g c = record {
   giving = rw (c.in-Frame.ensures.state, c.greater_of-last.ensures, c.end.ensures) (one_more c.args.at (state_of g.S.FrameStore.frames c.args.track.now) c.giving.feeder c.in-Frame.place c.in-Some.stored.now c.giving.last _ _ _ (sym c.in-Frame.ensures.answer) (sym c.in-Some.ensures) c.giving.invariant.giving c.in-Ok.ensures.ok);
-  no_fewer_faults = omega (arith, c.giving.invariant.no_fewer_faults, c.put_frame.ensures.no_fewer_faults);
-  same_faults = c.in-Ok.ensures.failures_told (gone_through _ _) ∙ c.giving.invariant.same_faults;
+  same_faults = c.in-Ok.ensures.puts.told (gone_through _ _) ∙ c.giving.invariant.same_faults;
 }
 
 pub returns-in-Ok-put_end-clause-end : goal.returns-in-Ok-put_end-clause-end

@@ -1,4 +1,4 @@
-use Rattle.std.proofs.Common.{◌≡◌, ◌≤◌}
+use Rattle.std.proofs.Common.{◌≡◌}
 use Rattle.track_store.specs.State.{state_of}
 use Rattle.feed_lines.proofs.FeederAnswers.{calls_left}
 use Rattle.feed_lines.proofs.PutLines.{group_place, IsGiving}
@@ -7,7 +7,6 @@ use Rattle.feed_lines.proofs.put.put_given.Given as goal
 abbrev pub invariant-giving : goal.invariant-giving
 invariant-giving g l = record {
   giving : IsGiving (group_place l.at (state_of g.S.FrameStore.frames l.track)) l.feeder l.last (g.K.Sink.written l.fn.sink) (g.K.Sink.written l.sink);
-  no_fewer_faults : g.K.Sink.faults l.fn.sink ≤ g.K.Sink.faults l.sink;
   same_faults : g.K.Sink.faults l.sink ≡ g.K.Sink.faults l.fn.sink;
 }
 

@@ -1,4 +1,4 @@
-use Rattle.std.proofs.Common.{◌≡◌, ◌≤◌, ◌∙◌, ap, arith, length, []}
+use Rattle.std.proofs.Common.{◌≡◌, ◌≤◌, ◌∙◌, ap, refl, arith, length, []}
 use Rattle.std.specs.Prelude.{vec_len}
 use Rattle.run_journal.specs.JournalView.{JournalView}
 use Rattle.mse_commands.proofs.ReadScripts.{steps_few}
@@ -17,7 +17,7 @@ returns-in-Err-load_blobs-clause-works g c =
     let ends = rw (c.in-Ok.ensures.table, c.as_slice.ensures) at c.in-Err-load_blobs.ensures.early_end in
     blobs_not_loaded (g.L.Library.table c.args.library.now) (g.L.Library.faults c.args.library.now) (g.L.Library.faults c.load_script.new.library) (g.L.Library.faults c.load_blobs.new.library)
     c.args.name.now c.in-Ok.script c.in-Err-load_blobs.end c.args.journal.now.entries c.args.engine.now (g.K.Sink.written c.args.sink.now) (vec_len c.args.listeners.now) _ _
-    c.requires.journal c.requires.no_engine c.in-Ok.ensures.no_fewer_faults c.in-Ok.ensures.ok ends
+    c.requires.journal c.requires.no_engine c.in-Ok.ensures.failures.no_fewer c.in-Ok.ensures.ok ends
 
 pub play_script-result-requires-clause-lines : goal.play_script-result-requires-clause-lines
 play_script-result-requires-clause-lines g c =
@@ -34,11 +34,11 @@ returns-clause-works g c =
     (script_works (g.L.Library.table c.args.library.now) (g.L.Library.faults c.args.library.now) (g.L.Library.faults c.load_blobs.new.library) c.args.name.now c.in-Ok.script c.in-Ok-load_blobs.blobs
     _ _ (vec_len c.args.listeners.now) _ _ c.play_script-result.result c.in-Ok.ensures.as_read len c.in-Ok.ensures.ok are stands fresh c.play_script-result.ensures.plays)
 
-pub returns-in-Err-clause-by_way : goal.returns-in-Err-clause-by_way
-returns-in-Err-clause-by_way g c = unheard_by_way _ _ _ _ c.requires.no_notes
+pub returns-in-Err-clause-listeners : goal.returns-in-Err-clause-listeners
+returns-in-Err-clause-listeners g c = record { kinds = refl; ways = refl; by_way = unheard_by_way _ _ _ _ c.requires.no_notes }
 
-pub returns-in-Err-load_blobs-clause-by_way : goal.returns-in-Err-load_blobs-clause-by_way
-returns-in-Err-load_blobs-clause-by_way g c = unheard_by_way _ _ _ _ c.requires.no_notes
+pub returns-in-Err-load_blobs-clause-listeners : goal.returns-in-Err-load_blobs-clause-listeners
+returns-in-Err-load_blobs-clause-listeners g c = record { kinds = refl; ways = refl; by_way = unheard_by_way _ _ _ _ c.requires.no_notes }
 
 pub returns-in-Err-clause-failed_load : goal.returns-in-Err-clause-failed_load
 returns-in-Err-clause-failed_load g c = λ other e.

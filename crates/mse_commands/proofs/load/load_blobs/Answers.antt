@@ -18,11 +18,11 @@ returns-in-Err-clause-failed_load g c = λ other e.
 pub loop-text-preserved : goal.loop-text-preserved
 loop-text-preserved g c =
     let i = c.loop-text.text-index in
-    let no_fewer : g.L.Library.faults c.args.library.now ≤ g.L.Library.faults c.load_blob.new.library = omega (arith, c.loop-text.invariant.no_fewer_faults, c.load_blob.ensures.no_fewer_faults) in
+    let no_fewer : g.L.Library.faults c.args.library.now ≤ g.L.Library.faults c.load_blob.new.library = omega (arith, c.loop-text.invariant.no_fewer_faults, c.load_blob.ensures.failures.no_fewer) in
     record {
       table = c.load_blob.ensures.table ∙ c.loop-text.invariant.table;
       no_fewer_faults = no_fewer;
-      same_faults = c.in-Ok.ensures.failures_told (λ e. e) ∙ c.loop-text.invariant.same_faults;
+      same_faults = c.in-Ok.ensures.failures.told (λ e. e) ∙ c.loop-text.invariant.same_faults;
       count = rw c.in-Ok-push.ensures.ok (grind (arith, length-append, c.loop-text.invariant.count));
       made = blobs_step (g.L.Library.table c.args.library.now) (g.L.Library.table c.loop-text.library) (take i c.args.texts.now) (take (i + 1) c.args.texts.now) c.text-item.result
           c.loop-text.blobs c.push.new.self c.in-Ok.bytes c.loop-text.invariant.table (more_at c.args.texts.now i c.text-item.result c.loop-text-test.true c.text-item.is)

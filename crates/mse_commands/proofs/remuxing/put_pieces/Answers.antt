@@ -1,4 +1,5 @@
 use Rattle.std.proofs.Common.{◌∙◌, ◌∷◌, ◌≤◌, [], ℕ, List, arith, length, subst}
+use Rattle.std.proofs.lemmas.Result.{err_from_is_err_and}
 use Rattle.script_run.specs.Writes.{IsFrontWritten, IsWritten}
 use Rattle.script_run.proofs.GoneThrough.{gone_through}
 use Rattle.mse_commands.proofs.PutTexts.{all_put, one_failed, one_put, singles, some_put}
@@ -9,16 +10,16 @@ returns-in_default-clause-err g c =
     subst (λ (x : List (List ℕ)). IsFrontWritten x (g.K.Sink.written c.args.sink.now) (g.K.Sink.written c.loop-i.sink)) (singles c.args.file.now)
     (some_put (λ piece. piece ∷ []) c.args.file.now c.loop-i.i _ _ c.loop-i.invariant.put)
 
-pub returns-in-Err-clause-err : goal.returns-in-Err-clause-err
-returns-in-Err-clause-err g c =
-    subst (λ (x : List (List ℕ)). IsFrontWritten x (g.K.Sink.written c.args.sink.now) (g.K.Sink.written c.put_bytes.new.sink)) (singles c.args.file.now)
-    (one_failed (λ piece. piece ∷ []) c.args.file.now c.loop-i.i c.in-Ok.piece _ _ _ c.in-Ok.ensures c.loop-i.invariant.put (rw c.as_slice.ensures at c.in-Err.ensures.err))
+pub returns-in_err-put_bytes-clause-err : goal.returns-in_err-put_bytes-clause-err
+returns-in_err-put_bytes-clause-err g c =
+    let p = err_from_is_err_and c.from_residual.result c.from_residual.ensures.1 in
+    rw p.1 (subst (λ (x : List (List ℕ)). IsFrontWritten x (g.K.Sink.written c.args.sink.now) (g.K.Sink.written c.put_bytes.new.sink)) (singles c.args.file.now)
+    (one_failed (λ piece. piece ∷ []) c.args.file.now c.loop-i.i c.in-Ok.piece _ _ _ c.in-Ok.ensures c.loop-i.invariant.put (rw c.as_slice.ensures at c.in_err-put_bytes.ensures.err)))
 
 pub loop-i-preserved : goal.loop-i-preserved
 loop-i-preserved g c = record {
-  put = one_put (λ piece. piece ∷ []) c.args.file.now c.loop-i.i c.in-Ok.piece _ _ _ c.in-Ok.ensures c.loop-i.invariant.put (rw c.as_slice.ensures at c.in-Ok-put_bytes.ensures.ok);
-  no_fewer_faults = omega (arith, c.loop-i.invariant.no_fewer_faults, c.put_bytes.ensures.no_fewer_faults);
-  same_faults = c.in-Ok-put_bytes.ensures.failures_told (gone_through _ _) ∙ c.loop-i.invariant.same_faults;
+  put = one_put (λ piece. piece ∷ []) c.args.file.now c.loop-i.i c.in-Ok.piece _ _ _ c.in-Ok.ensures c.loop-i.invariant.put (rw c.as_slice.ensures at c.in_ok-put_bytes.ensures.ok);
+  same_faults = c.in_ok-put_bytes.ensures.puts.told (gone_through _ _) ∙ c.loop-i.invariant.same_faults;
 }
 
 pub returns-clause-ok : goal.returns-clause-ok

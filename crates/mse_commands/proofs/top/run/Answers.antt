@@ -40,7 +40,7 @@ returns-in-Err-clause-complete g c =
     said_by (g.L.Library.table c.args.library.now) (map string_bytes c.args.words.now) (vec_len c.args.listeners.now) _ c.in-Err.end
     (g.K.Sink.written c.say.new.sink) c.say.result c.in-Err.ensures.works c.say.ensures.says in
     complete_by (g.L.Library.table c.args.library.now) (map string_bytes c.args.words.now) (vec_len c.args.listeners.now) _ _ _ c.say.result ends
-    (put_failed c.in-Err.end c.say.result _ _ _ c.say.ensures.write c.in-Err.ensures.write c.in-Err.ensures.no_fewer_faults c.say.ensures.no_fewer_faults)
+    (put_failed c.in-Err.end c.say.result _ _ _ c.say.ensures.puts.cause c.in-Err.ensures.puts.cause c.in-Err.ensures.puts.no_fewer c.say.ensures.puts.no_fewer)
 
 pub returns-in-Err-clause-cuts : goal.returns-in-Err-clause-cuts
 returns-in-Err-clause-cuts g c =
@@ -50,38 +50,38 @@ returns-in-Err-clause-cuts g c =
     cuts_by (g.L.Library.table c.args.library.now) (map string_bytes c.args.words.now) (vec_len c.args.listeners.now) _ c.say.result ends
 
 pub returns-in-Err-clause-failed_loads_told : goal.returns-in-Err-clause-failed_loads_told
-returns-in-Err-clause-failed_loads_told g c = loads_told c.in-Err.end c.say.result _ _ _ _ c.say.ensures.says c.in-Err.ensures.failed_loads_told
+returns-in-Err-clause-failed_loads_told g c = loads_told c.in-Err.end c.say.result _ _ _ _ c.say.ensures.says c.in-Err.ensures.loads.told
 
 pub returns-in-Err-clause-failed_puts_told : goal.returns-in-Err-clause-failed_puts_told
-returns-in-Err-clause-failed_puts_told g c = puts_told c.in-Err.end c.say.result _ _ _ _ _ c.say.ensures.says c.in-Err.ensures.failed_puts_told c.say.ensures.failures_told
+returns-in-Err-clause-failed_puts_told g c = puts_told c.in-Err.end c.say.result _ _ _ _ _ c.say.ensures.says c.in-Err.ensures.puts.told c.say.ensures.puts.told
 
 pub returns-in-Ok-true-clause-program : goal.returns-in-Ok-true-clause-program
 returns-in-Ok-true-clause-program g c =
     output_by (g.L.Library.table c.args.library.now) (map string_bytes c.args.words.now) (vec_len c.args.listeners.now) _ (g.K.Sink.faults c.args.sink.now) _ status.Media _
     (broken_at (g.L.Library.table c.args.library.now) (map string_bytes c.args.words.now) (vec_len c.args.listeners.now) _ (rw c.in-Ok-true.field-0-test at c.in-Ok-true.ensures.works))
     (λ e. absurd (cc (e))) c.requires.no_notes
-    (ways_told _ _ _ (vec_len c.args.listeners.now) c.args.listeners.now.items _ c.args.listeners.now.ok.0 c.in-Ok-true.ensures.ways c.in-Ok-true.ensures.by_way)
+    (ways_told _ _ _ (vec_len c.args.listeners.now) c.args.listeners.now.items _ c.args.listeners.now.ok.0 c.in-Ok-true.ensures.listeners.ways c.in-Ok-true.ensures.listeners.by_way)
 
 pub returns-in-Ok-true-clause-program_journal : goal.returns-in-Ok-true-clause-program_journal
 returns-in-Ok-true-clause-program_journal g c =
     journal_by (g.L.Library.table c.args.library.now) (map string_bytes c.args.words.now) (vec_len c.args.listeners.now) _ (g.K.Sink.faults c.args.sink.now) _ status.Media _
     (broken_at (g.L.Library.table c.args.library.now) (map string_bytes c.args.words.now) (vec_len c.args.listeners.now) _ (rw c.in-Ok-true.field-0-test at c.in-Ok-true.ensures.works))
     (λ e. absurd (cc (e))) c.requires.no_notes
-    (ways_told _ _ _ (vec_len c.args.listeners.now) c.args.listeners.now.items _ c.args.listeners.now.ok.0 c.in-Ok-true.ensures.ways c.in-Ok-true.ensures.by_way)
+    (ways_told _ _ _ (vec_len c.args.listeners.now) c.args.listeners.now.items _ c.args.listeners.now.ok.0 c.in-Ok-true.ensures.listeners.ways c.in-Ok-true.ensures.listeners.by_way)
 
 pub returns-in-Ok-false-clause-program : goal.returns-in-Ok-false-clause-program
 returns-in-Ok-false-clause-program g c =
     output_by (g.L.Library.table c.args.library.now) (map string_bytes c.args.words.now) (vec_len c.args.listeners.now) _ (g.K.Sink.faults c.args.sink.now) _ status.Ok _
     (whole_by (g.L.Library.table c.args.library.now) (map string_bytes c.args.words.now) (vec_len c.args.listeners.now) _ (rw c.in-Ok-false.field-0-test at c.in-Ok-false.ensures.works))
     (λ e. absurd (cc (e))) c.requires.no_notes
-    (ways_told _ _ _ (vec_len c.args.listeners.now) c.args.listeners.now.items _ c.args.listeners.now.ok.0 c.in-Ok-false.ensures.ways c.in-Ok-false.ensures.by_way)
+    (ways_told _ _ _ (vec_len c.args.listeners.now) c.args.listeners.now.items _ c.args.listeners.now.ok.0 c.in-Ok-false.ensures.listeners.ways c.in-Ok-false.ensures.listeners.by_way)
 
 pub returns-in-Ok-false-clause-program_journal : goal.returns-in-Ok-false-clause-program_journal
 returns-in-Ok-false-clause-program_journal g c =
     journal_by (g.L.Library.table c.args.library.now) (map string_bytes c.args.words.now) (vec_len c.args.listeners.now) _ (g.K.Sink.faults c.args.sink.now) _ status.Ok _
     (whole_by (g.L.Library.table c.args.library.now) (map string_bytes c.args.words.now) (vec_len c.args.listeners.now) _ (rw c.in-Ok-false.field-0-test at c.in-Ok-false.ensures.works))
     (λ e. absurd (cc (e))) c.requires.no_notes
-    (ways_told _ _ _ (vec_len c.args.listeners.now) c.args.listeners.now.items _ c.args.listeners.now.ok.0 c.in-Ok-false.ensures.ways c.in-Ok-false.ensures.by_way)
+    (ways_told _ _ _ (vec_len c.args.listeners.now) c.args.listeners.now.items _ c.args.listeners.now.ok.0 c.in-Ok-false.ensures.listeners.ways c.in-Ok-false.ensures.listeners.by_way)
 
 pub returns-in-Err-clause-program : goal.returns-in-Err-clause-program
 returns-in-Err-clause-program g c =
@@ -89,8 +89,8 @@ returns-in-Err-clause-program g c =
     said_by (g.L.Library.table c.args.library.now) (map string_bytes c.args.words.now) (vec_len c.args.listeners.now) _ c.in-Err.end
     (g.K.Sink.written c.say.new.sink) c.say.result c.in-Err.ensures.works c.say.ensures.says in
     output_by (g.L.Library.table c.args.library.now) (map string_bytes c.args.words.now) (vec_len c.args.listeners.now) _ (g.K.Sink.faults c.args.sink.now) _ c.say.result _ ends
-    (put_failed c.in-Err.end c.say.result _ _ _ c.say.ensures.write c.in-Err.ensures.write c.in-Err.ensures.no_fewer_faults c.say.ensures.no_fewer_faults) c.requires.no_notes
-    (ways_told _ _ _ (vec_len c.args.listeners.now) c.args.listeners.now.items _ c.args.listeners.now.ok.0 c.in-Err.ensures.ways c.in-Err.ensures.by_way)
+    (put_failed c.in-Err.end c.say.result _ _ _ c.say.ensures.puts.cause c.in-Err.ensures.puts.cause c.in-Err.ensures.puts.no_fewer c.say.ensures.puts.no_fewer) c.requires.no_notes
+    (ways_told _ _ _ (vec_len c.args.listeners.now) c.args.listeners.now.items _ c.args.listeners.now.ok.0 c.in-Err.ensures.listeners.ways c.in-Err.ensures.listeners.by_way)
 
 pub returns-in-Err-clause-program_journal : goal.returns-in-Err-clause-program_journal
 returns-in-Err-clause-program_journal g c =
@@ -98,8 +98,8 @@ returns-in-Err-clause-program_journal g c =
     said_by (g.L.Library.table c.args.library.now) (map string_bytes c.args.words.now) (vec_len c.args.listeners.now) _ c.in-Err.end
     (g.K.Sink.written c.say.new.sink) c.say.result c.in-Err.ensures.works c.say.ensures.says in
     journal_by (g.L.Library.table c.args.library.now) (map string_bytes c.args.words.now) (vec_len c.args.listeners.now) _ (g.K.Sink.faults c.args.sink.now) _ c.say.result _ ends
-    (put_failed c.in-Err.end c.say.result _ _ _ c.say.ensures.write c.in-Err.ensures.write c.in-Err.ensures.no_fewer_faults c.say.ensures.no_fewer_faults) c.requires.no_notes
-    (ways_told _ _ _ (vec_len c.args.listeners.now) c.args.listeners.now.items _ c.args.listeners.now.ok.0 c.in-Err.ensures.ways c.in-Err.ensures.by_way)
+    (put_failed c.in-Err.end c.say.result _ _ _ c.say.ensures.puts.cause c.in-Err.ensures.puts.cause c.in-Err.ensures.puts.no_fewer c.say.ensures.puts.no_fewer) c.requires.no_notes
+    (ways_told _ _ _ (vec_len c.args.listeners.now) c.args.listeners.now.items _ c.args.listeners.now.ok.0 c.in-Err.ensures.listeners.ways c.in-Err.ensures.listeners.by_way)
 
 pub returns-in-Err-clause-failed_load : goal.returns-in-Err-clause-failed_load
 returns-in-Err-clause-failed_load g c =

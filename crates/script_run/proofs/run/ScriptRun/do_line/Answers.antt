@@ -1,22 +1,23 @@
 use Rattle.std.proofs.Common.{refl, inl}
+use Rattle.script_run.proofs.GoneThrough.{halted_told}
 use Rattle.script_run.proofs.ScriptLines.{call_halted, called_ran, turn_line_ran, work_line_ran}
-use Rattle.script_run.proofs.PartsInRow.{halt_none, memory_wanting, sink_wanting}
+use Rattle.script_run.proofs.PartsInRow.{halt_none, halt_wanting, memory_wanting}
 use Rattle.script_run.proofs.run.ScriptRun.do_line.Goals as goal
 
 pub returns-in-Ok-clause-ran : goal.returns-in-Ok-clause-ran
 returns-in-Ok-clause-ran g c = rw c.in-Call.is (called_ran _ _ _ _ _ _ _ c.in-Ok.ensures.ok)
 
-pub returns-in-Err-Memory-clause-ran : goal.returns-in-Err-Memory-clause-ran
-returns-in-Err-Memory-clause-ran g c = rw c.in-Call.is (call_halted _ _ _ _ _ _ _ _ memory_wanting c.in-Err-Memory.ensures.err)
+pub returns-in-Err-clause-ran : goal.returns-in-Err-clause-ran
+returns-in-Err-clause-ran g c = rw (c.in-Call.is, c.of_halt.ensures) (call_halted _ _ _ _ _ _ _ _ (halt_wanting c.in-Err.halt) c.in-Err.ensures.err)
 
-pub returns-in-Err-Write-clause-ran : goal.returns-in-Err-Write-clause-ran
-returns-in-Err-Write-clause-ran g c = rw c.in-Call.is (call_halted _ _ _ _ _ _ _ _ sink_wanting c.in-Err-Write.ensures.err)
+pub returns-in-Err-clause-puts : goal.returns-in-Err-clause-puts
+returns-in-Err-clause-puts g c = rw c.of_halt.ensures (halted_told _ _ c.in-Err.halt c.in-Err.ensures.puts)
 
 pub returns-in-Ok-fire-clause-ran : goal.returns-in-Ok-fire-clause-ran
 returns-in-Ok-fire-clause-ran g c = rw c.in-Fire.is c.in-Ok-fire.ensures.ran
 
-pub returns-in-Err-clause-ran : goal.returns-in-Err-clause-ran
-returns-in-Err-clause-ran g c = rw c.in-Fire.is c.in-Err.ensures.ran
+pub returns-in-Err-fire-clause-ran : goal.returns-in-Err-fire-clause-ran
+returns-in-Err-fire-clause-ran g c = rw c.in-Fire.is c.in-Err-fire.ensures.ran
 
 pub returns-in-Ok-work-clause-ran : goal.returns-in-Ok-work-clause-ran
 returns-in-Ok-work-clause-ran g c = rw c.in-Work.is (work_line_ran _ _ _ _ _ _ _ (c.in-Ok-work.ensures.ok c.args.blobs.now))

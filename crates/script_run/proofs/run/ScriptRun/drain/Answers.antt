@@ -19,6 +19,6 @@ draining-preserved g c =
       count = c.finish_work.ensures.count ∙ c.draining.invariant.count;
       kept = kept_then _ _ _ _ _ _ _ c.draining.invariant.kept c.finish_work.ensures.listeners;
       ran = both;
-      same_faults = c.in-Ok-false.ensures.failures.told (λ e. cc) ∙ c.draining.invariant.same_faults;
+      same_faults = c.in-Ok-false.ensures.puts.told (λ e. cc) ∙ c.draining.invariant.same_faults;
       left = omega (arith, both.left);
     }

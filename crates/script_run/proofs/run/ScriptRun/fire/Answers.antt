@@ -3,7 +3,9 @@ use Rattle.std.proofs.lemmas.List.{length-map}
 use Rattle.std.proofs.lemmas.Grind.{common_steps}
 use Rattle.listeners.specs.declared.event_dispatch.DispatchFault.{DispatchFault}
 use Rattle.listeners.specs.declared.event_dispatch.DispatchFault.TheVariants.{OutOfMemory}
-use Rattle.script_run.proofs.FiredEvents.{fired_alone, fired_half, fired_ran, fired_short, fired_stopped, fired_unheard, nothing_fired}
+use Rattle.script_run.specs.declared.stop.Halt.{Halt}
+use Rattle.script_run.proofs.FiredEvents.{fired_alone, fired_halted, fired_ran, fired_stopped, fired_unheard, nothing_fired}
+use Rattle.script_run.proofs.GoneThrough.{halted_told}
 use Rattle.script_run.proofs.PartsInRow.{halt_none, memory_wanting, ran_none}
 use Rattle.script_run.proofs.run.ScriptRun.fire.Goals as goal
 
@@ -42,30 +44,27 @@ returns-then-is_out_of_memory-clause-ran g c =
     let short = rw wanted at c.dispatch-outcome.ensures.dispatch in
     rw (← c.self.view_is) (fired_unheard c.args.blobs.now c.in-Some.event _ _ _ _ _ _ step short (simp length-map (grind (arith, common_steps, c.dispatch-outcome.ensures.count))))
 
-pub returns-in-Err-Memory-clause-ran : goal.returns-in-Err-Memory-clause-ran
-returns-in-Err-Memory-clause-ran g c =
-    let took = rw c.in-Some.is at c.in-Ok.ensures.ok in
-    let step = rw (← c.self.view_is, ← c.self-2.view_is) at (took c.args.blobs.now) in
-    let wrote = rw c.len-from.ensures at c.in-Err-Memory.ensures.err in
-    let short = rw c.len-from.ensures at (c.in-Err-Memory.ensures.short (cc (c.in-Err-Memory.field-0-is))) in
-    rw (← c.self.view_is) (fired_short c.args.blobs.now c.in-Some.event _ _ _ _ _ _ _ c.dispatch-outcome.result step c.dispatch-outcome.ensures.dispatch (simp length-map (grind (arith, common_steps, c.dispatch-outcome.ensures.count))) wrote short)
-
-pub returns-in-Err-Write-clause-ran : goal.returns-in-Err-Write-clause-ran
-returns-in-Err-Write-clause-ran g c =
-    let took = rw c.in-Some.is at c.in-Ok.ensures.ok in
-    let step = rw (← c.self.view_is, ← c.self-2.view_is) at (took c.args.blobs.now) in
-    let wrote = rw c.len-from.ensures at c.in-Err-Write.ensures.err in
-    let not : ¬ (c.dispatch-outcome.result ≡ Err OutOfMemory) = λ e. absurd (cc (c.is_out_of_memory.ensures.1 e, c.if-is_out_of_memory.false)) in
-    rw (← c.self.view_is) (fired_half c.args.blobs.now c.in-Some.event _ _ _ _ _ _ _ c.dispatch-outcome.result not step c.dispatch-outcome.ensures.dispatch (simp length-map (grind (arith, common_steps, c.dispatch-outcome.ensures.count))) wrote)
-
 pub returns-in-Err-clause-ran : goal.returns-in-Err-clause-ran
 returns-in-Err-clause-ran g c =
     let took = rw c.in-Some.is at c.in-Ok.ensures.ok in
     let step = rw (← c.self.view_is, ← c.self-2.view_is) at (took c.args.blobs.now) in
+    let wrote = rw c.len-from.ensures at c.in-Err.ensures.err in
+    let short = rw c.len-from.ensures at c.in-Err.ensures.short in
+    let not : ¬ (c.dispatch-outcome.result ≡ Err OutOfMemory) = λ e. absurd (cc (c.is_out_of_memory.ensures.1 e, c.if-is_out_of_memory.false)) in
+    rw (c.of_halt.ensures, ← c.self.view_is) (fired_halted c.args.blobs.now c.in-Some.event c.in-Err.halt _ _ _ _ _ _ _ c.dispatch-outcome.result not step c.dispatch-outcome.ensures.dispatch
+    (simp length-map (grind (arith, common_steps, c.dispatch-outcome.ensures.count))) wrote (λ e. short (ap (λ (x : Halt). Err x) e)))
+
+pub returns-in-Err-clause-puts : goal.returns-in-Err-clause-puts
+returns-in-Err-clause-puts g c = rw c.of_halt.ensures (halted_told _ _ c.in-Err.halt c.in-Err.ensures.puts)
+
+pub returns-in-Err-outcome-clause-ran : goal.returns-in-Err-outcome-clause-ran
+returns-in-Err-outcome-clause-ran g c =
+    let took = rw c.in-Some.is at c.in-Ok.ensures.ok in
+    let step = rw (← c.self.view_is, ← c.self-2.view_is) at (took c.args.blobs.now) in
     let wrote = rw c.len-from.ensures at c.in-Ok-put_entries.ensures.ok in
-    let not : ¬ (c.in-Err.fault ≡ OutOfMemory) =
-    λ e. absurd (cc (c.is_out_of_memory.ensures.1 (c.in-Err.is ∙ ap (λ (f : DispatchFault). Err f) e), c.if-is_out_of_memory.false)) in
-    rw (c.of.ensures, ← c.self.view_is) (fired_stopped c.args.blobs.now c.in-Some.event c.in-Err.fault _ _ _ _ _ _ _ not step c.in-Err.ensures.dispatch
+    let not : ¬ (c.in-Err-outcome.fault ≡ OutOfMemory) =
+    λ e. absurd (cc (c.is_out_of_memory.ensures.1 (c.in-Err-outcome.is ∙ ap (λ (f : DispatchFault). Err f) e), c.if-is_out_of_memory.false)) in
+    rw (c.of.ensures, ← c.self.view_is) (fired_stopped c.args.blobs.now c.in-Some.event c.in-Err-outcome.fault _ _ _ _ _ _ _ not step c.in-Err-outcome.ensures.dispatch
     (simp length-map (grind (arith, common_steps, c.dispatch-outcome.ensures.count))) wrote)
 
 pub returns-clause-ran : goal.returns-clause-ran

@@ -4,12 +4,12 @@ use Rattle.script_run.proofs.WorkLeft.{fired_taken}
 use Rattle.script_run.proofs.RunSteps.{fired_goes, no_event, not_fired}
 use Rattle.script_run.proofs.run.ScriptRun.fire_first.Goals as goal
 
-pub returns-in_default-fire-clause-ok : goal.returns-in_default-fire-clause-ok
-returns-in_default-fire-clause-ok g c =
-    let same : c.fire.new.self ≡ c.self.inside.engine = not_fired (fire_result c.sound.ensures.standing.state) _ _ (c.in_default-fire.ensures.fired c.sound.ensures.standing.state c.sound.ensures.standing.stands) in
+pub returns-in_default-clause-ok : goal.returns-in_default-clause-ok
+returns-in_default-clause-ok g c =
+    let same : c.fire.new.self ≡ c.self.inside.engine = not_fired (fire_result c.sound.ensures.standing.state) _ _ (c.in_default.ensures.fired c.sound.ensures.standing.state c.sound.ensures.standing.stands) in
     λ blobs. (
       rw (same, c.reserve.ensures.entries) c.self.view_is,
-      λ st h. no_event st.element.queue st c.self.inside.engine c.fire.new.self (c.in_default-fire.ensures.fired st (rw (← c.self.view_is) at h)),
+      λ st h. no_event st.element.queue st c.self.inside.engine c.fire.new.self (c.in_default.ensures.fired st (rw (← c.self.view_is) at h)),
     )
 
 pub returns-clause-fewer : goal.returns-clause-fewer

@@ -26,5 +26,5 @@ loop-n-preserved g c =
       played = played_then _ _ _ _ _ _ _
           (λ st xs ys p q. lines_join c.args.blobs.now (limits c.args.limit (vec_len c.args.listeners.now)) c.args.lines.now c.loop-n.n c.index-lines-n.result c.loop-n-test.true (sym c.index-lines-n.is) st xs ys p q)
           c.loop-n.invariant.played played;
-      same_faults = c.in-Ok.ensures.failures.told (gone_through _ _) ∙ c.loop-n.invariant.same_faults;
+      same_faults = c.in-Ok.ensures.puts.told (gone_through _ _) ∙ c.loop-n.invariant.same_faults;
     }

@@ -37,7 +37,7 @@ working-preserved g c =
       count = c.fire_all.ensures.count ∙ c.working.invariant.count;
       kept = kept_then _ _ _ _ _ _ _ c.working.invariant.kept c.fire_all.ensures.listeners;
       ran = order_then_ran _ _ _ _ both step;
-      same_faults = c.in-Ok-true.ensures.failures.told (λ e. cc) ∙ c.working.invariant.same_faults;
+      same_faults = c.in-Ok-true.ensures.puts.told (λ e. cc) ∙ c.working.invariant.same_faults;
       left = omega (arith, both.left, step.left);
     }
 

@@ -6,7 +6,7 @@ use Rattle.script_run.specs.Progress.{own_turns_left}
 use Rattle.script_run.specs.PlayedParts.{IsPlayedInLine}
 use Rattle.script_run.specs.Keeps.{AreListenersKept}
 use Rattle.script_run.specs.RunStates.{run_at}
-use Rattle.script_run.proofs.run.ScriptRun.turn_all.Given as goal
+use Rattle.script_run.proofs.run.ScriptRun.finish_work.Given as goal
 
 abbrev pub invariant-turning : goal.invariant-turning
 invariant-turning g l = record {
