@@ -17,7 +17,7 @@ mod quiet;
 mod run;
 mod stop;
 
-pub use listening::{add_listener, give_rules};
+pub use listening::give_rules;
 pub use put::{put_bytes, put_lines};
 pub use run::ScriptRun;
 pub use stop::{Halt, Stop};

@@ -1,6 +1,6 @@
 //! Listeners, and their rules.
 
-ghost use Rattle.std.specs.Prelude.{◌≡◌, ◌≤◌, ◌<◌, ◌+◌, ◌^◌, ◌==◌, ◌++◌, ◌∷◌, not, ℕ, [], IfOk, OnOk, OnErr, map, vec_len};
+ghost use Rattle.std.specs.Prelude.{◌≡◌, ◌<◌, ◌^◌, ◌==◌, not, ℕ, [], IfOk, OnOk, map, vec_len};
 ghost use Rattle.std.specs.List.{filter};
 ghost use Rattle.listeners.specs.Dispatch.{notes_at};
 ghost use Rattle.listeners.specs.Ways.{AreByWay};
@@ -10,22 +10,6 @@ use listeners::Listener;
 use mse_base::OutOfMemory;
 use mse_calls::Rule;
 use std::alloc::Global;
-
-/// Puts a listener last that has heard nothing, behind others that have heard nothing.
-pub fn add_listener(
-    listeners: &mut Vec<Box<dyn Listener>>,
-    listener: Box<dyn Listener>,
-) -> Result<(), OutOfMemory>
-    requires listener_without_notes { notes listener ≡ [] }
-    requires no_notes { (w : ℕ) → notes_at (map (λ b. notes b) listeners.old.items) w ≡ [] }
-    ensures ok { OnOk result (listeners.new.items ≡ listeners.old.items ++ listener ∷ []) }
-    ensures err { OnErr result (listeners.new.items ≡ listeners.old.items) }
-    ensures no_notes { (w : ℕ) → notes_at (map (λ b. notes b) listeners.new.items) w ≡ [] }
-    ensures count { vec_len listeners.new ≤ vec_len listeners.old + 1 }
-{
-    listeners.push(listener)?;
-    Ok(())
-}
 
 /// The rules of the listener of a number, and the others, each in their order.
 fn rules_by_number(
