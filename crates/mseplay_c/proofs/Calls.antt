@@ -1,5 +1,5 @@
 -- What a call leaves of a run in memory.
-use Rattle.std.proofs.Common.{◌≡◌, ℕ, List, [], ap, arith, inr, refl, subst, sym, take, drop, length}
+use Rattle.std.proofs.Common.{◌≡◌, ◌≢◌, ℕ, List, [], ap, arith, inr, refl, subst, sym, take, drop, length}
 use Rattle.std.specs.Prelude.{Result, Ok, Err, IfOk}
 use Rattle.std.specs.List.{concat}
 use Rattle.std.proofs.Math.Seq.{take-nil}
@@ -24,6 +24,12 @@ given_text (Ok made) text end library files words given same_files same_words pr
     subst (λ (ws : List (List ℕ)). IsTextBy (program_of (by_rules 16) (table_of files) ws) (text made) (end made)) same_words
     (subst (λ (fs : Files). IsTextBy (program_of (by_rules 16) (table_of fs) words) (text made) (end made)) same_files (printed zero_stays))
 given_text (Err e) text end library files words given same_files same_words printed = tt
+
+-- nor does a load or a put fail, so the status is that of neither
+pub given_end : {A E : Type 0} (r : Result A E) (end : A → Status) (P : A → Type 0) → IfOk r P → IfOk r (λ made. end made ≢ status.Write) → ((made : A) → P made → end made ≡ status.Read → HasRisen 0 0)
+    → IfOk r (λ made. (end made ≢ status.Read) × (end made ≢ status.Write))
+given_end (Ok made) end P run no_failed_put read = (λ e. zero_stays (read made run e), no_failed_put)
+given_end (Err e) end P run no_failed_put read = tt
 
 -- without memory for a run nothing is printed
 pub no_run : (output : Output) (answer : ℕ) (room : List ℕ) → answer ≡ status_number status.Memory → IsCall output answer 0 room room

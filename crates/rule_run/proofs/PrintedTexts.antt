@@ -4,12 +4,15 @@ use Rattle.std.specs.Prelude.{Option, Some, None, IfSome}
 use Rattle.std.specs.List.{concat}
 use Rattle.std.proofs.lemmas.List.{append-nil}
 use Rattle.std.proofs.lemmas.List.Folds.{concat-append}
+use Rattle.mse_outside.specs.declared.library.Loaded.{Loaded}
+use Rattle.mse_outside.specs.Memory.{SureSinkState}
 use Rattle.mse_outside.specs.Outside.{HasFrontAppended, HasRisen, IfTold, SinkView, Table}
 use Rattle.script_run.specs.Writes.{IsFirstTried, IsFrontWritten, IsWritten}
 use Rattle.mse_commands.specs.declared.ending.Status.{Status}
 use Rattle.mse_commands.specs.Ends.{IsOutputBy}
 use Rattle.mse_commands.specs.Program.{Output}
-use Rattle.rule_run.specs.Texts.{IsTextBy}
+use Rattle.rule_run.specs.ByRules.{IsRunByRules, LibraryAndSink}
+use Rattle.rule_run.specs.Texts.{IsTextBy, empty_sink, library_and_memory}
 
 some-injects : {A : Type 0} (x y : A) → ◌≡◌ {A = Option A} (Some x) (Some y) → x ≡ y
 some-injects x y e = cc
@@ -56,3 +59,9 @@ told_text (Some files) loads puts output old new text end o n done p = λ loaded
 -- a count that stays at 0
 pub zero_stays : ¬ HasRisen 0 0
 zero_stays h = omega (arith, h)
+
+-- a run whose sink was given nothing before
+pub run_of_empty : {L : Type 0} (count : ℕ) (table : Option Table) (load_gives : L → List ℕ → Loaded → L → Type 0) (words : List (List ℕ)) (loads : L → ℕ) (library : L) (sink : SureSinkState) (now : LibraryAndSink L) (end : Status) → sink ≡ empty_sink
+    → IsRunByRules count table load_gives words (library_and_memory loads library sink) now end → IsRunByRules count table load_gives words (library_and_memory loads library empty_sink) now end
+run_of_empty count table load_gives words loads library sink now end is run =
+    subst (λ (s : SureSinkState). IsRunByRules count table load_gives words (library_and_memory loads library s) now end) is run

@@ -2,7 +2,6 @@
 use Rattle.std.proofs.Common.{◌≡◌, ◌∙◌, ℕ, zero, suc, ◌+◌, List, [], ◌∷◌, ◌++◌, ap, map, refl, subst}
 use Rattle.std.specs.Prelude.{Option, None, Some, IfSome, replicate}
 use Rattle.std.proofs.lemmas.List.{replicate_more, map-append}
-use Rattle.mse_outside.specs.Outside.{SinkView}
 use Rattle.mse_calls.specs.declared.entry.Entry.{Entry}
 use Rattle.mse_calls.specs.declared.rules.Rule.{Rule}
 use Rattle.listeners.specs.declared.listener.Note.{Note}
@@ -15,7 +14,7 @@ use Rattle.mse_commands.specs.Outcomes.{IsEndOfRun, outcome, outside_of}
 use Rattle.mse_commands.specs.Program.{by_rules}
 use Rattle.mse_commands.specs.Requests.{Request}
 use Rattle.mse_commands.proofs.ByWays.{by_ways_of}
-use Rattle.rule_run.specs.ByRules.{IsEndByRules}
+use Rattle.rule_run.specs.ByRules.{IsEndByRules, LibraryAndSink}
 
 -- each has the same, and so has the next
 pub one_more : {X A : Type 0} (seen : A → X) (x : X) (n : ℕ) (old new : List A) (one : A) → new ≡ old ++ one ∷ [] → map seen old ≡ replicate n x → seen one ≡ x → map seen new ≡ replicate (n + 1) x
@@ -42,9 +41,9 @@ pub no_notes_at : (n : ℕ) (notes : List (List Note)) (w : ℕ) → notes ≡ r
 no_notes_at n notes w e = rw e (none_at n w)
 
 -- what a run promises, told of listeners by rules
-pub ends_by_rules : {A : Type 0} (way : A → Option Way) (rules : A → List Rule) (notes : A → List Note) (count : ℕ) (old new : List A) (told : ℕ) (request : Request) (entries : List Entry) (engine : Option KeptEngine)
-    (before now : ℕ × SinkView) (end : Status) → told ≡ count → map way old ≡ replicate count (Some next_call) → map rules old ≡ replicate count [] → map notes old ≡ replicate count [] → map way new ≡ map way old
-    → AreByWay way rules notes new → IsEndOfRun told request (outcome entries engine (outside_of before.0 before.1 (map notes old) (map rules old)) (outside_of now.0 now.1 (map notes new) (map rules new))) end
+pub ends_by_rules : {A L : Type 0} (way : A → Option Way) (rules : A → List Rule) (notes : A → List Note) (count : ℕ) (old new : List A) (told : ℕ) (request : Request) (entries : List Entry) (engine : Option KeptEngine)
+    (before now : LibraryAndSink L) (end : Status) → told ≡ count → map way old ≡ replicate count (Some next_call) → map rules old ≡ replicate count [] → map notes old ≡ replicate count [] → map way new ≡ map way old
+    → AreByWay way rules notes new → IsEndOfRun told request (outcome entries engine (outside_of before.failed_loads before.written (map notes old) (map rules old)) (outside_of now.failed_loads now.written (map notes new) (map rules new))) end
     → IsEndByRules count request before now end
 ends_by_rules way rules notes count old new told request entries engine before now end many ways no_rules no_notes kept by ends = (
   entries,
@@ -52,7 +51,7 @@ ends_by_rules way rules notes count old new told request entries engine before n
   map notes new,
   map rules new,
   by_ways_of way rules notes (by_rules count) new (kept ∙ (ways ∙ told_by_rules count)) by,
-  subst (λ n. IsEndOfRun n request (outcome entries engine (outside_of before.0 before.1 (replicate count []) (replicate count [])) (outside_of now.0 now.1 (map notes new) (map rules new))) end) many
-      (subst (λ rs. IsEndOfRun told request (outcome entries engine (outside_of before.0 before.1 (replicate count []) rs) (outside_of now.0 now.1 (map notes new) (map rules new))) end) no_rules
-      (subst (λ ns. IsEndOfRun told request (outcome entries engine (outside_of before.0 before.1 ns (map rules old)) (outside_of now.0 now.1 (map notes new) (map rules new))) end) no_notes ends)),
+  subst (λ n. IsEndOfRun n request (outcome entries engine (outside_of before.failed_loads before.written (replicate count []) (replicate count [])) (outside_of now.failed_loads now.written (map notes new) (map rules new))) end) many
+      (subst (λ rs. IsEndOfRun told request (outcome entries engine (outside_of before.failed_loads before.written (replicate count []) rs) (outside_of now.failed_loads now.written (map notes new) (map rules new))) end) no_rules
+      (subst (λ ns. IsEndOfRun told request (outcome entries engine (outside_of before.failed_loads before.written ns (map rules old)) (outside_of now.failed_loads now.written (map notes new) (map rules new))) end) no_notes ends)),
 )

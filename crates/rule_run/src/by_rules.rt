@@ -1,13 +1,8 @@
 //! A run with listeners by rules.
 
-ghost use Rattle.std.specs.Prelude.{◌≡◌, ◌≢◌, ◌+◌, ℕ, [], None, Some, IfOk, IfSome, OnErr, OnOk, map, replicate, string_bytes, vec_len};
-ghost use Rattle.mse_outside.specs.Outside.{HasRisen};
+ghost use Rattle.std.specs.Prelude.{◌≡◌, ◌+◌, ℕ, [], Some, IfOk, OnErr, OnOk, map, replicate, string_bytes, vec_len};
 ghost use Rattle.listeners.specs.RuleCalls.{next_call};
-ghost use Rattle.mse_commands.specs.Ends.{IsOutputBy};
-ghost use Rattle.mse_commands.specs.Program.{by_rules, program_of};
-ghost use Rattle.mse_commands.specs.Requests.{HasRequestOfWords};
-ghost use Rattle.mse_commands.specs.Words.{command_of};
-ghost use Rattle.rule_run.specs.ByRules.{IsEndByRules};
+ghost use Rattle.rule_run.specs.ByRules.{IsRunByRules, library_and_sink};
 
 use listeners::{Listener, RuleListener};
 use mse_base::OutOfMemory;
@@ -67,21 +62,9 @@ fn run_with<S: FrameStore, L: Library, K: Sink>(
     requires by_rules { map (λ b. way b) listeners.old.items ≡ replicate count (Some next_call) }
     requires no_rules { map (λ b. rules b) listeners.old.items ≡ replicate count [] }
     requires no_notes { map (λ b. notes b) listeners.old.items ≡ replicate count [] }
-    ensures program { IfSome (L.table library.old) (λ files.
-        ¬ HasRisen (L.faults library.old) (L.faults library.new)
-        → ¬ HasRisen (K.faults sink.old) (K.faults sink.new)
-        → IsOutputBy (program_of (by_rules count) files (map string_bytes words.now))
-        (K.written sink.old) (K.written sink.new) result) }
-    ensures ends { HasRequestOfWords (L.table library.old) (map string_bytes words.now)
-        (λ request. IsEndByRules count request
-        (L.faults library.old, K.written sink.old)
-        (L.faults library.new, K.written sink.new) result) }
-    ensures words { result ≡ Status.Words → command_of (map string_bytes words.now) ≡ None }
-    ensures read { result ≡ Status.Read → HasRisen (L.faults library.old) (L.faults library.new) }
-    ensures write { result ≡ Status.Write → HasRisen (K.faults sink.old) (K.faults sink.new) }
-    ensures failed_loads_told { result ≢ Status.Read → result ≢ Status.Memory
-        → result ≢ Status.Write → L.faults library.new ≡ L.faults library.old }
-    ensures failed_puts_told { result ≢ Status.Write → K.faults sink.new ≡ K.faults sink.old }
+    ensures { IsRunByRules count (L.table library.old) L.load_gives (map string_bytes words.now)
+        (library_and_sink L.faults K.written K.faults library.old sink.old)
+        (library_and_sink L.faults K.written K.faults library.new sink.new) result }
 {
     let mut engine: Option<Engine<S>> = None;
     let mut journal = Journal::new(alloc);
@@ -107,25 +90,10 @@ pub fn run_by_rules<S: FrameStore, L: Library, K: Sink>(
     library: &mut L,
     sink: &mut K,
 ) -> Result<Status, OutOfMemory>
-    ensures program { IfOk result (λ end. IfSome (L.table library.old) (λ files.
-        ¬ HasRisen (L.faults library.old) (L.faults library.new)
-        → ¬ HasRisen (K.faults sink.old) (K.faults sink.new)
-        → IsOutputBy (program_of (by_rules count) files (map string_bytes words.now))
-        (K.written sink.old) (K.written sink.new) end)) }
-    ensures ends { IfOk result (λ end. HasRequestOfWords (L.table library.old)
-        (map string_bytes words.now) (λ request. IsEndByRules count request
-        (L.faults library.old, K.written sink.old)
-        (L.faults library.new, K.written sink.new) end)) }
-    ensures words { IfOk result (λ end.
-        end ≡ Status.Words → command_of (map string_bytes words.now) ≡ None) }
-    ensures read { IfOk result (λ end.
-        end ≡ Status.Read → HasRisen (L.faults library.old) (L.faults library.new)) }
-    ensures write { IfOk result (λ end.
-        end ≡ Status.Write → HasRisen (K.faults sink.old) (K.faults sink.new)) }
-    ensures failed_loads_told { IfOk result (λ end. end ≢ Status.Read → end ≢ Status.Memory
-        → end ≢ Status.Write → L.faults library.new ≡ L.faults library.old) }
-    ensures failed_puts_told { IfOk result (λ end.
-        end ≢ Status.Write → K.faults sink.new ≡ K.faults sink.old) }
+    ensures run { IfOk result (λ end. IsRunByRules count (L.table library.old) L.load_gives
+        (map string_bytes words.now)
+        (library_and_sink L.faults K.written K.faults library.old sink.old)
+        (library_and_sink L.faults K.written K.faults library.new sink.new) end) }
     ensures library { OnErr result (library.new ≡ library.old) }
     ensures sink { OnErr result (sink.new ≡ sink.old) }
 {
