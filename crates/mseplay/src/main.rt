@@ -2,98 +2,81 @@
 //! file, and prints what happens: calls, answers and events, and what a media source has buffered
 //! in the end. It writes classic files as fragments, and prints the frames that a decoder is given.
 //!
-//! It stands on `mse_commands`, whose [`run`] does all of it, and hands in the folder, standard output, sixteen
-//! listeners by rules, and the store of `track_index`. It ends with the number of the status.
+//! It stands on `rule_run`, whose [`run_by_rules`] does all of it, and hands in the words, the folder, standard output,
+//! the number of listeners, and the store of `track_index`. It ends with the number of the status.
 #![tactic(auto)]
 
-ghost use Rattle.std.specs.Prelude.{◌≡◌, [], Some, IfOk};
-ghost use Rattle.listeners.specs.RuleCalls.{next_call};
+ghost use Rattle.std.specs.Prelude.{◌≡◌, IfErr, IfOk, IsErr, OnErr, drop, map, string_bytes};
+ghost use Rattle.std.specs.IoError.{error_kind};
+ghost use Rattle.std.specs.Process.{exit_status};
+ghost use Rattle.std.specs.Result.{result_unwrap_or};
+ghost use Rattle.std.specs.Vec.Iter.{into_iter_items};
+ghost use Rattle.mse_commands.specs.Endings.{status_number};
+ghost use Rattle.mseplay.specs.Runs.{IsRunOfProgram, folder_and_output};
+ghost use Rattle.mseplay.specs.Words.{words_in};
 
-use listeners::{Listener, RuleListener};
 use mse_base::OutOfMemory;
-use mse_commands::{Status, run};
-use mse_engine::Engine;
+use mse_commands::Status;
 use mse_outside::{FolderLibrary, StdoutSink};
-use run_journal::Journal;
-use script_run::add_listener;
+use rule_run::{LISTENERS, run_by_rules};
 use std::alloc::Global;
-use std::env;
-use std::io::ErrorKind;
+use std::env::{self, Args};
+use std::io::{self, ErrorKind};
 use std::process::ExitCode;
 use track_index::IndexStore;
 
-/// The arguments after the program's name. Arguments that are no text are no words.
-///
-/// What the system hands out is in no contract, so none can say here which words these are.
-fn arguments(rt: &HostRuntime) -> Result<Vec<String>, OutOfMemory> {
-    let mut words = Vec::new(rt.alloc());
-    match env::args(rt) {
-        Ok(texts) => {
-            for word in texts.skip(1) {
-                words.push(word)?;
-            }
-        }
-        Err(error) => {
-            if error.kind() == ErrorKind::OutOfMemory {
-                return Err(OutOfMemory);
-            }
-        }
-    }
-    Ok(words)
-}
-
-/// A listener by rules, which has none yet and has heard nothing.
-fn listener(alloc: Global) -> Result<Box<RuleListener>, OutOfMemory>
-    ensures by_rules { IfOk result (λ b.
-        ⟦<RuleListener as Listener>⟧.way b.value ≡ Some next_call) }
-    ensures no_rules { IfOk result (λ b. ⟦<RuleListener as Listener>⟧.rules b.value ≡ []) }
-    ensures no_notes { IfOk result (λ b. ⟦<RuleListener as Listener>⟧.notes b.value ≡ []) }
+/// All arguments but the first, which is the program's name.
+fn words_behind_name(alloc: Global, arguments: Args) -> Result<Vec<String>, OutOfMemory>
+    ensures { IfOk result (λ words. words.items ≡ drop 1 (into_iter_items arguments)) }
 {
-    Ok(Box::new(alloc, RuleListener::new(alloc))?)
+    Ok(arguments.skip(1).collect(alloc)?)
 }
 
-/// Runs the words with sixteen listeners.
-fn start(rt: HostRuntime, words: &[String]) -> Result<Status, OutOfMemory> {
-    let alloc = rt.alloc();
-    let mut listeners: Vec<Box<dyn Listener>> = Vec::new(alloc);
-    add_listener(&mut listeners, listener(alloc)?)?;
-    add_listener(&mut listeners, listener(alloc)?)?;
-    add_listener(&mut listeners, listener(alloc)?)?;
-    add_listener(&mut listeners, listener(alloc)?)?;
-    add_listener(&mut listeners, listener(alloc)?)?;
-    add_listener(&mut listeners, listener(alloc)?)?;
-    add_listener(&mut listeners, listener(alloc)?)?;
-    add_listener(&mut listeners, listener(alloc)?)?;
-    add_listener(&mut listeners, listener(alloc)?)?;
-    add_listener(&mut listeners, listener(alloc)?)?;
-    add_listener(&mut listeners, listener(alloc)?)?;
-    add_listener(&mut listeners, listener(alloc)?)?;
-    add_listener(&mut listeners, listener(alloc)?)?;
-    add_listener(&mut listeners, listener(alloc)?)?;
-    add_listener(&mut listeners, listener(alloc)?)?;
-    add_listener(&mut listeners, listener(alloc)?)?;
-    let mut engine: Option<Engine<IndexStore>> = None;
-    let mut journal = Journal::new(alloc);
-    Ok(run(
-        alloc,
-        words,
-        &mut FolderLibrary::new(rt),
-        &mut StdoutSink::new(rt),
-        &mut listeners,
-        &mut engine,
-        &mut journal,
-    ))
+/// The words of the program. There are none where an argument is no text.
+fn words_of(alloc: Global, arguments: io::Result<Args>) -> Result<Vec<String>, OutOfMemory>
+    ensures words { IfOk result (λ words. words.items ≡ words_in arguments) }
+    ensures memory { IfErr arguments (λ error.
+        error_kind error ≡ ErrorKind.OutOfMemory → IsErr result) }
+{
+    match arguments {
+        Ok(arguments) => words_behind_name(alloc, arguments),
+        Err(error) => match error.kind() {
+            ErrorKind::OutOfMemory => Err(OutOfMemory),
+            _ => Ok(Vec::new(alloc)),
+        },
+    }
 }
 
-fn begin(rt: HostRuntime) -> Result<Status, OutOfMemory> {
-    let words = arguments(&rt)?;
-    start(rt, &words)
+/// Runs the words among the arguments, with sixteen listeners by rules, over the folder and standard output. Coded frames
+/// are kept in an [`IndexStore`].
+///
+/// An `Err` is want of memory before the run; then nothing was done.
+fn start(
+    alloc: Global,
+    arguments: io::Result<Args>,
+    library: &mut FolderLibrary<HostRuntime>,
+    sink: &mut StdoutSink<HostRuntime>,
+) -> Result<Status, OutOfMemory>
+    ensures run { IfOk result (λ end. IsRunOfProgram (map string_bytes (words_in arguments))
+        (folder_and_output library.old sink.old) (folder_and_output library.new sink.new) end) }
+    ensures library { OnErr result (library.new ≡ library.old) }
+    ensures sink { OnErr result (sink.new ≡ sink.old) }
+{
+    let words = words_of(alloc, arguments)?;
+    run_by_rules::<IndexStore, FolderLibrary<HostRuntime>, StdoutSink<HostRuntime>>(
+        alloc, LISTENERS, &words, library, sink,
+    )
+}
+
+/// The number of the status, which is `Memory` where there was no memory for a run.
+fn exit_code(outcome: Result<Status, OutOfMemory>) -> ExitCode
+    ensures { exit_status result ≡ status_number (result_unwrap_or outcome Status.Memory) }
+{
+    ExitCode::from(outcome.unwrap_or(Status::Memory).number())
 }
 
 fn main(rt: HostRuntime) -> ExitCode {
-    let status = match begin(rt) {
-        Ok(status) => status,
-        Err(_) => Status::Memory,
-    };
-    ExitCode::from(status.number())
+    let mut library = FolderLibrary::new(rt);
+    let mut sink = StdoutSink::new(rt);
+    exit_code(start(rt.alloc(), env::args(&rt), &mut library, &mut sink))
 }
