@@ -11,14 +11,14 @@
 extern "C" {
 #endif
 
-struct mseplay_bytes {
-    const uint8_t *at;
+struct mseplay_byte_slice {
+    const uint8_t *data;
     size_t length;
 };
 
 struct mseplay_file {
-    struct mseplay_bytes name;
-    struct mseplay_bytes bytes;
+    struct mseplay_byte_slice name;
+    struct mseplay_byte_slice bytes;
 };
 
 /* Does what the words ask for with these files, and returns the status that the program would end with: 0 to 9
@@ -34,7 +34,7 @@ struct mseplay_file {
  * `written` overlap nothing else; nothing that is handed in changes or is freed during the call; and the function is called
  * neither from a signal handler nor in the forked child of a process with threads. Calls share nothing, so threads may
  * call at the same time. The function keeps no pointer, and gives back all memory that it took. */
-uint8_t mseplay_run(const struct mseplay_bytes *words, size_t word_count,
+uint8_t mseplay_run(const struct mseplay_byte_slice *words, size_t word_count,
                     const struct mseplay_file *files, size_t file_count,
                     uint8_t *room, size_t size, size_t *written);
 

@@ -21,12 +21,12 @@ BUILT = HERE.parent.parent / "crates" / "mseplay_c" / "out" / "libmseplay_c.a"
 FIRST_ROOM = 1 << 14
 
 
-class Bytes(ctypes.Structure):
-    _fields_ = [("at", ctypes.c_char_p), ("length", ctypes.c_size_t)]
+class ByteSlice(ctypes.Structure):
+    _fields_ = [("data", ctypes.c_char_p), ("length", ctypes.c_size_t)]
 
 
 class File(ctypes.Structure):
-    _fields_ = [("name", Bytes), ("bytes", Bytes)]
+    _fields_ = [("name", ByteSlice), ("bytes", ByteSlice)]
 
 
 def archive():
@@ -55,8 +55,8 @@ def shared_library(folder):
     return ctypes.CDLL(str(path))
 
 
-def bytes_of(data):
-    return Bytes(data, len(data))
+def slice_of(data):
+    return ByteSlice(data, len(data))
 
 
 def array_of(kind, items):
@@ -72,17 +72,17 @@ class Library:
             self.run = shared_library(folder).mseplay_run
         size = ctypes.c_size_t
         self.run.restype = ctypes.c_uint8
-        self.run.argtypes = [ctypes.POINTER(Bytes), size, ctypes.POINTER(File), size,
+        self.run.argtypes = [ctypes.POINTER(ByteSlice), size, ctypes.POINTER(File), size,
                              ctypes.c_char_p, size, ctypes.POINTER(size)]
 
     def call(self, words, files, size):
         """The status, how many bytes are printed, and a room of so many bytes that begins with them."""
-        word_list = [bytes_of(os.fsencode(word)) for word in words]
-        file_list = [File(bytes_of(os.fsencode(name)), bytes_of(bytes(data)))
+        word_list = [slice_of(os.fsencode(word)) for word in words]
+        file_list = [File(slice_of(os.fsencode(name)), slice_of(bytes(data)))
                      for name, data in files.items()]
         room = ctypes.create_string_buffer(max(size, 1))
         written = ctypes.c_size_t()
-        status = self.run(array_of(Bytes, word_list), len(word_list),
+        status = self.run(array_of(ByteSlice, word_list), len(word_list),
                           array_of(File, file_list), len(file_list),
                           room, size, ctypes.byref(written))
         return status, written.value, room.raw[:size]

@@ -16,9 +16,9 @@ static void stop(const char *why, const char *name, int status)
     exit(status);
 }
 
-static struct mseplay_bytes text(const char *word)
+static struct mseplay_byte_slice text(const char *word)
 {
-    struct mseplay_bytes bytes = {(const uint8_t *)word, strlen(word)};
+    struct mseplay_byte_slice bytes = {(const uint8_t *)word, strlen(word)};
     return bytes;
 }
 
@@ -31,7 +31,7 @@ static void *room_for(void *old, size_t size)
     return room;
 }
 
-static struct mseplay_bytes contents(const char *name)
+static struct mseplay_byte_slice contents(const char *name)
 {
     size_t length = 0, size = 4096, count;
     uint8_t *bytes = room_for(NULL, size);
@@ -46,7 +46,7 @@ static struct mseplay_bytes contents(const char *name)
     if (ferror(file))
         stop("cannot read ", name, 3);
     fclose(file);
-    struct mseplay_bytes all = {bytes, length};
+    struct mseplay_byte_slice all = {bytes, length};
     return all;
 }
 
@@ -60,7 +60,7 @@ int main(int count, char **names)
         files[i].name = text(names[i + 1]);
         files[i].bytes = contents(names[i + 1]);
     }
-    struct mseplay_bytes words[] = {text("play"), files[0].name};
+    struct mseplay_byte_slice words[] = {text("play"), files[0].name};
     size_t size = 1000, written;
     uint8_t *room = room_for(NULL, size);
     int status = mseplay_run(words, 2, files, file_count, room, size, &written);

@@ -3,11 +3,11 @@ use Rattle.std.specs.Prelude.{ℕ, List, [], map, if◌then◌else◌}
 use Rattle.std.specs.List.{list_all}
 use Rattle.std.specs.Str.{is_utf8}
 use Rattle.mse_outside.specs.Memory.{Files}
-use Rattle.mseplay_c.specs.declared.Bytes.{Bytes}
+use Rattle.mseplay_c.specs.declared.ByteSlice.{ByteSlice}
 use Rattle.mseplay_c.specs.declared.File.{File}
 
 -- the words, where each of them is a text in UTF-8; else none
-abbrev pub words_in : List Bytes → List (List ℕ)
+abbrev pub words_in : List ByteSlice → List (List ℕ)
 words_in words =
     if list_all (λ word. is_utf8 word.bytes.now) words then map (λ word. word.bytes.now) words
     else []

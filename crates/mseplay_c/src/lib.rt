@@ -31,7 +31,7 @@ use track_index::IndexStore;
 /// Bytes in the caller's memory. For C it is a pointer and a length.
 #[derive(Clone, Copy)]
 #[repr(C)]
-pub struct Bytes<'a> {
+pub struct ByteSlice<'a> {
     pub bytes: &'a [u8],
 }
 
@@ -49,7 +49,7 @@ pub struct File<'a> {
 /// run.
 fn run_given(
     alloc: Global,
-    words: &[Bytes<'_>],
+    words: &[ByteSlice<'_>],
     files: &[File<'_>],
 ) -> Result<(Status, SureSink), OutOfMemory>
     ensures printed { IfOk result (λ made. IsTextBy
@@ -72,7 +72,7 @@ fn run_given(
 #[unsafe(no_mangle)]
 pub extern "C" fn mseplay_run(
     alloc: Global,
-    words: &[Bytes<'_>],
+    words: &[ByteSlice<'_>],
     files: &[File<'_>],
     room: &mut [u8],
     written: &mut usize,

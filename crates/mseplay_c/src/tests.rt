@@ -1,11 +1,11 @@
 //! Calls as C makes them.
 
-use crate::{Bytes, File, mseplay_run};
+use crate::{ByteSlice, File, mseplay_run};
 use std::test::Fail;
 
 #[test]
 fn prints_into_the_room(rt: HostRuntime) -> Result<(), Fail> {
-    let words = [Bytes { bytes: b"make" }, Bytes { bytes: b"1" }];
+    let words = [ByteSlice { bytes: b"make" }, ByteSlice { bytes: b"1" }];
     let mut room = [0u8; 1000];
     let mut written = 0;
     let status = mseplay_run(rt.alloc(), &words, &[], &mut room, &mut written);
@@ -22,7 +22,7 @@ fn prints_into_the_room(rt: HostRuntime) -> Result<(), Fail> {
 
 #[test]
 fn finds_the_first_file_of_a_name(rt: HostRuntime) -> Result<(), Fail> {
-    let words = [Bytes { bytes: b"play" }, Bytes { bytes: b"script" }];
+    let words = [ByteSlice { bytes: b"play" }, ByteSlice { bytes: b"script" }];
     let files = [
         File {
             name: b"script",
@@ -44,7 +44,7 @@ fn finds_the_first_file_of_a_name(rt: HostRuntime) -> Result<(), Fail> {
 
 #[test]
 fn a_word_that_is_no_text(rt: HostRuntime) -> Result<(), Fail> {
-    let words = [Bytes { bytes: b"ranges" }, Bytes { bytes: &[255] }];
+    let words = [ByteSlice { bytes: b"ranges" }, ByteSlice { bytes: &[255] }];
     let mut room = [0u8; 20];
     let mut written = 0;
     let status = mseplay_run(rt.alloc(), &words, &[], &mut room, &mut written);
