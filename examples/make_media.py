@@ -196,6 +196,22 @@ MEDIA_FILES = {
     "box-too-large.mp4": PLAIN + large(b"free", (1 << 40) + 1),
     "segment-128-mib.mp4": INIT + MOOF[:-20] + struct.pack(">I4s", (1 << 27) - (len(MOOF) - 20), b"mdat"),
     "segment-too-large.mp4": INIT + MOOF[:-20] + struct.pack(">I4s", (1 << 27) - (len(MOOF) - 20) + 1, b"mdat"),
+    "size-0-alone.mp4": struct.pack(">I4s", 0, b"free"),
+    # a box that is out of place is that first, whatever its size
+    "moov-too-large-first.mp4": struct.pack(">I4s", (1 << 24) + 1, b"moov"),
+    "moov-too-large-behind-styp.mp4": box(b"styp") + struct.pack(">I4s", (1 << 24) + 1, b"moov"),
+    "moof-too-large-behind-ftyp.mp4": FTYP + struct.pack(">I4s", (1 << 24) + 1, b"moof"),
+    "moof-too-large-first.mp4": struct.pack(">I4s", (1 << 24) + 1, b"moof"),
+    # a box behind a movie fragment box ends 2^27 bytes after the first byte of that one, or a byte later
+    "box-to-128-mib.mp4": INIT + MOOF[:-20] + struct.pack(">I4s", (1 << 27) - 136, b"free"),
+    "box-past-128-mib.mp4": INIT + MOOF[:-20] + struct.pack(">I4s", (1 << 27) - 136 + 1, b"free"),
+    "second-box-to-128-mib.mp4": INIT + MOOF[:-20] + box(b"free") + struct.pack(">I4s", (1 << 27) - 144, b"free"),
+    "second-box-past-128-mib.mp4": INIT + MOOF[:-20] + box(b"free") + struct.pack(">I4s", (1 << 27) - 144 + 1, b"free"),
+    "moov-past-128-mib.mp4": INIT + MOOF[:-20] + struct.pack(">I4s", 1 << 27, b"moov"),
+    # a frame in each of two media data boxes, of which the first has a 64-bit size and four bytes more
+    "mdat-of-64-bits.mp4": INIT + lone_moof(traf(tfhd(), TFDT, *(
+        full(b"trun", 1, 0xF01, words(1, place, 3000, 4, SYNC, 0)) for place in (156, 180))))
+    + large(b"mdat", 24) + b"abcd----" + box(b"free") + box(b"mdat", b"wxyz"),
     "moov-again.mp4": PLAIN + moov(VIDEO),
     "init-again.mp4": PLAIN + INIT + segment(2, Run(1, 9000, 3000, pictures(3))),
     "moof-behind-ftyp.mp4": FTYP + MOOF,
