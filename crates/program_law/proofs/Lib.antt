@@ -1,4 +1,5 @@
-mod Examples
-mod FileExamples
+pub mod Examples
+pub mod FileExamples
 mod LimitExamples
-mod ScriptExamples
+mod OnInputs
+pub mod ScriptExamples
