@@ -1,5 +1,5 @@
 -- What a call leaves of a run in memory.
-use Rattle.std.proofs.Common.{◌≡◌, ◌≢◌, ℕ, List, [], ap, arith, inr, refl, subst, sym, take, drop, length}
+use Rattle.std.proofs.Common.{◌≡◌, ◌≢◌, ℕ, List, [], arith, inr, refl, subst, length}
 use Rattle.std.specs.Prelude.{Result, Ok, Err, IfOk}
 use Rattle.std.specs.List.{concat}
 use Rattle.std.proofs.Math.Seq.{take-nil}
