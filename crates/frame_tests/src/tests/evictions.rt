@@ -2,6 +2,7 @@
 //! has 4 bytes.
 
 use super::frames::{Sample, When, add_track, has_frames, moment, time};
+use super::rows::expect;
 use eviction::evict;
 use mse_base::Kind;
 use std::alloc::Global;
@@ -176,8 +177,8 @@ const CASES: [Case; 13] = [
 
 #[test]
 fn evicts(rt: HostRuntime) -> Result<(), Fail> {
-    for case in &CASES {
-        assert!(rt; leaves(rt.alloc(), case)?, "{}", case.0);
+    for (i, case) in CASES.iter().enumerate() {
+        expect(&rt, case.0, i, leaves(rt.alloc(), case)?);
     }
     Ok(())
 }

@@ -7,10 +7,10 @@ ghost use Rattle.track_store.specs.Sound.{IsSound};
 ghost use Rattle.track_store.specs.State.{state_of, states_of};
 
 use super::media::{REPLACED, Sample, feed_all, one_track, segments, time};
+use super::rows::expect;
 use decoder_feed::{FeedNext, Feeder, feed};
-use mse_base::{Kind, Moment, Ticks};
+use mse_base::{Kind, Moment, OutOfMemory, Ticks};
 use range_removal::remove_frames;
-use std::alloc::Global;
 use std::process::Abort;
 use std::test::Fail;
 use track_store::{FrameStore, ListStore, Settings, Track, Tracks};
@@ -40,125 +40,106 @@ fn first_of<S: FrameStore>(tracks: &Tracks<S>) -> Option<&Track<S>>
     tracks.get(0)
 }
 
-/// Seeks to a time; whether the frame with this serial is shown then.
-fn seeks<S: FrameStore>(
-    feeder: &mut Feeder,
-    tracks: &Tracks<S>,
-    t: Ticks,
-    wanted: Option<u64>,
-) -> Result<bool, Fail>
-    requires { AreSoundAndCountable (states_of S.frames tracks.now.items) }
-{
-    let track = first_of(tracks).ok_or("no track")?;
-    Ok(feeder.seek(track, t) == wanted)
-}
-
-/// Whether this is the next answer.
-fn answers<S: FrameStore>(
-    feeder: &mut Feeder,
-    tracks: &Tracks<S>,
-    wanted: FeedNext,
-) -> Result<bool, Fail>
-    requires { AreSoundAndCountable (states_of S.frames tracks.now.items) }
-{
-    let track = first_of(tracks).ok_or("no track")?;
-    Ok(feeder.next(track) == wanted)
-}
-
 /// Whether the next frames are those with these serials.
-fn gives<S: FrameStore>(
-    feeder: &mut Feeder,
-    tracks: &Tracks<S>,
-    serials: &[u64],
-) -> Result<bool, Fail>
-    requires { AreSoundAndCountable (states_of S.frames tracks.now.items) }
+fn gives<S: FrameStore>(feeder: &mut Feeder, track: &Track<S>, serials: &[u64]) -> bool
+    requires { IsSound (state_of S.frames track.now) }
 {
-    let track = first_of(tracks).ok_or("no track")?;
     for serial in serials {
-        match feeder.next(track) {
-            FeedNext::Frame(i) => {
-                let stored = track.store.get(i).ok_or("no frame")?;
-                if stored.serial != *serial {
-                    return Ok(false);
-                }
-            }
-            _ => return Ok(false),
+        let found = match feeder.next(track) {
+            FeedNext::Frame(i) => serial_at(track, i),
+            _ => None,
+        };
+        if found != Some(*serial) {
+            return false;
         }
     }
-    Ok(true)
+    true
+}
+
+fn serial_at<S: FrameStore>(track: &Track<S>, place: usize) -> Option<u64> {
+    match track.store.get(place) {
+        Some(stored) => Some(stored.serial),
+        None => None,
+    }
+}
+
+/// Whether the frames at these places have these serials.
+fn have_serials<S: FrameStore>(track: &Track<S>, places: &[usize], serials: &[u64]) -> bool {
+    for (place, serial) in places.iter().zip(serials.iter()) {
+        if serial_at(track, *place) != Some(*serial) {
+            return false;
+        }
+    }
+    places.len() == serials.len()
 }
 
 /// Whether the feed for a time has these serials; none where there is no feed.
 fn feeds<S: FrameStore>(
-    alloc: Global,
-    tracks: &Tracks<S>,
+    rt: &(impl Abort + AllocGlobal),
+    track: &Track<S>,
     t: Ticks,
     serials: &[u64],
-) -> Result<bool, Fail>
-    requires { AreSoundAndCountable (states_of S.frames tracks.now.items) }
+) -> bool
+    requires { IsSound (state_of S.frames track.now) }
 {
-    let track = first_of(tracks).ok_or("no track")?;
-    match feed(alloc, track, t)? {
-        Some(places) => {
-            for (i, serial) in serials.iter().enumerate() {
-                let place = places.get(i).ok_or("no place")?;
-                let stored = track.store.get(*place).ok_or("no frame")?;
-                if stored.serial != *serial {
-                    return Ok(false);
-                }
-            }
-            Ok(places.len() == serials.len())
-        }
-        None => Ok(serials.is_empty()),
+    match feed(rt.alloc(), track, t).expect(rt, "memory") {
+        Some(places) => have_serials(track, places.as_slice(), serials),
+        None => serials.is_empty(),
     }
 }
 
 /// Asks the feeder; whether it answers what is wanted.
 fn asks<S: FrameStore>(
-    alloc: Global,
+    rt: &(impl Abort + AllocGlobal),
     feeder: &mut Feeder,
-    tracks: &Tracks<S>,
+    track: &Track<S>,
     scale: u32,
     step: &Step,
-) -> Result<bool, Fail>
-    requires { AreSoundAndCountable (states_of S.frames tracks.now.items) }
+) -> bool
+    requires { IsSound (state_of S.frames track.now) }
 {
     match *step {
-        Step::Seek(t, wanted) => seeks(feeder, tracks, time(i128::from(t), scale)?, wanted),
-        Step::Next(wanted) => answers(feeder, tracks, wanted),
+        Step::Seek(t, wanted) => feeder.seek(track, time(rt, i128::from(t), scale)) == wanted,
+        Step::Next(wanted) => feeder.next(track) == wanted,
         Step::Gives(serials, last) => {
-            let given = gives(feeder, tracks, serials)?;
-            let first = answers(feeder, tracks, last)?;
-            let second = answers(feeder, tracks, last)?;
-            Ok(given && first && second)
+            gives(feeder, track, serials)
+                && feeder.next(track) == last
+                && feeder.next(track) == last
         }
-        Step::Feeds(t, serials) => feeds(alloc, tracks, time(i128::from(t), scale)?, serials),
-        _ => Ok(true),
+        Step::Feeds(t, serials) => feeds(rt, track, time(rt, i128::from(t), scale), serials),
+        Step::Place(_) | Step::Remove(_, _) => false,
     }
 }
 
-/// Changes the track.
-fn change<S: FrameStore>(
-    alloc: Global,
+/// Takes a step; whether that comes of it which is wanted.
+fn does<S: FrameStore>(
+    rt: &(impl Abort + AllocGlobal),
     tracks: &mut Tracks<S>,
     settings: &mut Settings,
+    feeder: &mut Feeder,
     scale: u32,
     step: &Step,
-) -> Result<(), Fail>
+) -> Result<bool, OutOfMemory>
     requires sound_and_countable { AreSoundAndCountable (states_of S.frames tracks.old.items) }
     requires window_start { pos 0 ≤ℤ settings.old.window_start }
     ensures sound_and_countable { AreSoundAndCountable (states_of S.frames tracks.new.items) }
     ensures window_start { pos 0 ≤ℤ settings.new.window_start }
 {
     match *step {
-        Step::Place(samples) => feed_all(alloc, tracks, settings, scale, samples),
-        Step::Remove(start, end) => {
-            let start = time(i128::from(start), scale)?;
-            let end = Moment::At(time(i128::from(end), scale)?);
-            remove_frames(tracks, start, end, Moment::Infinite);
-            Ok(())
+        Step::Place(samples) => {
+            feed_all(rt, tracks, settings, scale, samples)?;
+            Ok(true)
         }
-        _ => Ok(()),
+        Step::Remove(start, end) => {
+            let start = time(rt, i128::from(start), scale);
+            let end = Moment::At(time(rt, i128::from(end), scale));
+            remove_frames(tracks, start, end, Moment::Infinite);
+            Ok(true)
+        }
+        _ => match first_of(tracks) {
+            Some(track) => Ok(asks(rt, feeder, track, scale, step)),
+            None => Ok(false),
+        },
     }
 }
 
@@ -172,9 +153,8 @@ fn run<S: FrameStore>(rt: &(impl Abort + AllocGlobal), case: &Case) -> Result<()
     let mut settings = segments();
     let mut feeder = Feeder::new();
     for (i, step) in steps.iter().enumerate() {
-        change(rt.alloc(), &mut tracks, &mut settings, scale, step)?;
-        let as_wanted = asks(rt.alloc(), &mut feeder, &tracks, scale, step)?;
-        assert!(rt; as_wanted, "{name}, step {i}");
+        let as_wanted = does(rt, &mut tracks, &mut settings, &mut feeder, scale, step)?;
+        expect(rt, name, i, as_wanted);
     }
     Ok(())
 }

@@ -5,10 +5,11 @@ ghost use Rattle.track_store.specs.State.{state_of, states_of};
 ghost use Rattle.track_store.specs.Sound.{IsSound};
 ghost use Rattle.track_store.specs.Kept.{IsCountable, AreSoundAndCountable};
 
+use super::rows::not_negative;
 use frame_rules::{Placed, place};
 use mse_base::{Bytes, CodedFrame, Kind, Moment, OutOfMemory, Ticks, convert};
 use std::alloc::Global;
-use std::test::Fail;
+use std::process::Abort;
 use track_store::{FrameStore, Marks, Settings, Track, Tracks};
 
 /// Decode time, duration, composition offset, and whether it is a random access point.
@@ -25,41 +26,30 @@ pub(super) const REPLACED: [Sample; 7] = [
     (300, 100, 0, true),
 ];
 
-/// The time, where it is not negative.
-pub(super) fn not_negative(t: Ticks) -> Option<Ticks>
-    ensures { IfSome result (λ u. pos 0 ≤ℤ u) }
-{
-    if t < Ticks::zero() { None } else { Some(t) }
-}
-
 /// A time in units of which a second has so many.
-pub(super) fn time(m: i128, scale: u32) -> Result<Ticks, Fail> {
-    if m.unsigned_abs() > 1 << 80 || scale == 0 {
-        return Err("no media time".into());
-    }
-    Ok(convert(m, scale).ok_or("no time")?)
+pub(super) fn time(rt: &impl Abort, m: i128, scale: u32) -> Ticks {
+    assert!(rt; m.unsigned_abs() <= 1 << 80 && scale != 0);
+    convert(m, scale).expect(rt, "a time")
 }
 
 /// The frame of a sample, with four bytes.
-pub(super) fn frame_of(alloc: Global, scale: u32, sample: &Sample) -> Result<CodedFrame, Fail>
-    ensures { IfOk result (λ f. pos 0 ≤ℤ f.dur) }
+pub(super) fn frame_of(rt: &(impl Abort + AllocGlobal), scale: u32, sample: &Sample) -> CodedFrame
+    ensures { pos 0 ≤ℤ result.dur }
 {
     let (decode, duration, offset, sync) = *sample;
     let begin = i128::from(decode) + i128::from(offset);
-    let pts = time(begin, scale)?;
-    let dts = time(i128::from(decode), scale)?;
-    let end = time(begin + i128::from(duration), scale)?;
-    let length = end.checked_sub(pts).ok_or("no duration")?;
-    let dur = not_negative(length).ok_or("no duration")?;
-    let payload = Bytes::copy_of(alloc, &[0; 4])?;
-    Ok(CodedFrame {
+    let pts = time(rt, begin, scale);
+    let end = time(rt, begin + i128::from(duration), scale);
+    let dur = not_negative(rt, end.checked_sub(pts).expect(rt, "a duration"));
+    let payload = Bytes::copy_of(rt.alloc(), &[0; 4]).expect(rt, "memory");
+    CodedFrame {
         track_id: 1,
         pts,
-        dts,
+        dts: time(rt, i128::from(decode), scale),
         dur,
         sync,
         payload,
-    })
+    }
 }
 
 /// The settings of a new source buffer.
@@ -149,22 +139,20 @@ pub(super) fn feed<S: FrameStore>(
 
 /// Places the frames of samples in the first track.
 pub(super) fn feed_all<S: FrameStore>(
-    alloc: Global,
+    rt: &(impl Abort + AllocGlobal),
     tracks: &mut Tracks<S>,
     settings: &mut Settings,
     scale: u32,
     samples: &[Sample],
-) -> Result<(), Fail>
+) -> Result<(), OutOfMemory>
     requires sound_and_countable { AreSoundAndCountable (states_of S.frames tracks.old.items) }
     requires window_start { pos 0 ≤ℤ settings.old.window_start }
     ensures sound_and_countable { AreSoundAndCountable (states_of S.frames tracks.new.items) }
     ensures window_start { pos 0 ≤ℤ settings.new.window_start }
 {
     for sample in samples {
-        if tracks.len() == 0 {
-            return Err("no track".into());
-        }
-        let frame = frame_of(alloc, scale, sample)?;
+        assert!(rt; tracks.len() != 0);
+        let frame = frame_of(rt, scale, sample);
         let _placed = feed(tracks, settings, 0, frame)?;
     }
     Ok(())

@@ -5,6 +5,7 @@ ghost use Rattle.std.specs.Prelude.{◌≡◌, ◌+ℤ◌, pos, ◌≤ℤ◌, tr
 ghost use Rattle.mse_base.specs.Time.{IsTick};
 
 use super::frames::duration_from;
+use super::rows::expect;
 use mse_base::{Bytes, CodedFrame, Kind, Ticks};
 use overlap_rules::make_room;
 use std::alloc::Global;
@@ -228,7 +229,7 @@ const CASES: [(&str, &[Row]); 4] = [
 fn makes_room(rt: HostRuntime) -> Result<(), Fail> {
     for (case, rows) in &CASES {
         for (i, row) in rows.iter().enumerate() {
-            assert!(rt; leaves(rt.alloc(), row)?, "{case}, row {i}");
+            expect(&rt, case, i, leaves(rt.alloc(), row)?);
         }
     }
     Ok(())
@@ -248,8 +249,8 @@ fn removes_the_greatest_serial(rt: HostRuntime) -> Result<(), Fail> {
         marks: Marks::new(),
     };
     make_room_for(&mut track, (10, 5))?;
-    assert!(rt; track.store.len() == 1, "before the frame");
+    expect(&rt, "before the frame", 0, track.store.len() == 1);
     make_room_for(&mut track, (10, 6))?;
-    assert!(rt; track.store.len() == 0, "over the frame");
+    expect(&rt, "over the frame", 0, track.store.len() == 0);
     Ok(())
 }

@@ -7,15 +7,15 @@ ghost use Rattle.track_store.specs.Sound.{IsSound};
 ghost use Rattle.track_store.specs.Kept.{IsCountable, bytes_in, AreSoundAndCountable};
 
 use super::media::{
-    REPLACED, Sample, empty_track, feed, feed_all, frame_of, not_negative, one_track, reserve_at,
-    segments, time,
+    REPLACED, Sample, empty_track, feed, feed_all, frame_of, one_track, reserve_at, segments, time,
 };
+use super::rows::{Bounds, are, expect, not_negative, ticks};
 use frame_rules::{Placed, Why, place};
 use mse_base::{Bytes, CodedFrame, Kind, OutOfMemory, Ticks};
 use std::alloc::Global;
 use std::process::Abort;
 use std::test::Fail;
-use track_store::{FrameStore, ListStore, Marks, Settings, Tracks};
+use track_store::{FrameStore, ListStore, Marks, Settings, Track, Tracks};
 
 /// Two tracks with no frames.
 fn two_tracks<S: FrameStore>(alloc: Global) -> Result<Tracks<S>, OutOfMemory>
@@ -66,7 +66,7 @@ enum Step {
     /// The serials and media times of the frames of the first track.
     Frames(&'static [(u64, i32)]),
     /// The ranges of the first track, in ticks.
-    Ranges(&'static [(i64, i64)]),
+    Ranges(&'static [Bounds]),
     HighestEnd(i32),
     /// Of the track at a place, the serial of the random access point with which its group begins,
     /// how many frames it received, and the last decode timestamp.
@@ -75,129 +75,100 @@ enum Step {
     Unset(usize),
 }
 
-/// Changes the settings.
-fn set(settings: &mut Settings, scale: u32, step: &Step) -> Result<(), Fail>
+/// Changes the settings; whether the step is such a change.
+fn sets(rt: &impl Abort, settings: &mut Settings, scale: u32, step: &Step) -> bool
     requires window_start { pos 0 ≤ℤ settings.old.window_start }
     ensures window_start { pos 0 ≤ℤ settings.new.window_start }
 {
     match *step {
         Step::SetSequence => settings.sequence = true,
         Step::SetGenerate => settings.generate = true,
-        Step::SetOffset(m) => settings.offset = time(i128::from(m), scale)?,
+        Step::SetOffset(m) => settings.offset = time(rt, i128::from(m), scale),
         Step::SetWindowStart(m) => {
-            let start = time(i128::from(m), scale)?;
-            settings.window_start = not_negative(start).ok_or("no time")?;
+            settings.window_start = not_negative(rt, time(rt, i128::from(m), scale));
         }
-        Step::SetGroupStart(m) => settings.group_start = Some(time(i128::from(m), scale)?),
-        _ => {}
+        Step::SetGroupStart(m) => settings.group_start = Some(time(rt, i128::from(m), scale)),
+        _ => return false,
     }
-    Ok(())
-}
-
-/// Places a sample in the track at a place; whether that becomes of it which is wanted.
-fn places<S: FrameStore>(
-    alloc: Global,
-    tracks: &mut Tracks<S>,
-    settings: &mut Settings,
-    scale: u32,
-    step: (usize, Sample, Placed),
-) -> Result<bool, Fail>
-    requires sound_and_countable { AreSoundAndCountable (states_of S.frames tracks.old.items) }
-    requires window_start { pos 0 ≤ℤ settings.old.window_start }
-    ensures sound_and_countable { AreSoundAndCountable (states_of S.frames tracks.new.items) }
-    ensures window_start { pos 0 ≤ℤ settings.new.window_start }
-{
-    let (index, sample, wanted) = step;
-    let frame = frame_of(alloc, scale, &sample)?;
-    if index >= tracks.len() {
-        return Err("no track".into());
-    }
-    Ok(feed(tracks, settings, index, frame)? == wanted)
+    true
 }
 
 /// Whether the track holds the frames with these serials and media times.
 fn has_frames<S: FrameStore>(
-    tracks: &Tracks<S>,
+    rt: &impl Abort,
+    track: &Track<S>,
     scale: u32,
     wanted: &[(u64, i32)],
-) -> Result<bool, Fail> {
-    let track = tracks.get(0).ok_or("no track")?;
+) -> bool {
     for (i, (serial, begin)) in wanted.iter().enumerate() {
-        let pts = time(i128::from(*begin), scale)?;
-        match track.store.get(i) {
-            Some(stored) => {
-                if stored.serial != *serial || stored.frame.pts != pts {
-                    return Ok(false);
-                }
-            }
-            None => return Ok(false),
+        let pts = time(rt, i128::from(*begin), scale);
+        let found = match track.store.get(i) {
+            Some(stored) => Some((stored.serial, stored.frame.pts)),
+            None => None,
+        };
+        if found != Some((*serial, pts)) {
+            return false;
         }
     }
-    Ok(track.store.len() == wanted.len())
+    track.store.len() == wanted.len()
 }
 
-/// Whether the track has these ranges.
-fn has_ranges<S: FrameStore>(tracks: &Tracks<S>, wanted: &[(i64, i64)]) -> Result<bool, Fail> {
-    let track = tracks.get(0).ok_or("no track")?;
-    let ranges = track.store.copy_ranges()?;
-    for (i, (start, end)) in wanted.iter().enumerate() {
-        match ranges.get(i) {
-            Some(span) => {
-                let bounds = (span.start.get(), span.end.get());
-                if bounds != (i128::from(*start), i128::from(*end)) {
-                    return Ok(false);
-                }
-            }
-            None => return Ok(false),
+/// Whether the track at a place, its marks or its ranges are as is wanted.
+fn has_track<S: FrameStore>(rt: &impl Abort, tracks: &Tracks<S>, scale: u32, step: &Step) -> bool {
+    match *step {
+        Step::Frames(wanted) => match tracks.get(0) {
+            Some(track) => has_frames(rt, track, scale, wanted),
+            None => false,
+        },
+        Step::Ranges(wanted) => match tracks.get(0) {
+            Some(track) => are(&track.store.copy_ranges().expect(rt, "memory"), wanted),
+            None => false,
+        },
+        Step::HighestEnd(m) => {
+            marks_at(rt, tracks, 0).highest_end == Some(time(rt, i128::from(m), scale))
         }
+        Step::Marks(place, first, received, decode) => {
+            let marks = marks_at(rt, tracks, place);
+            let decode = Some(time(rt, i128::from(decode), scale));
+            (marks.group_first, marks.received, marks.last_decode) == (first, received, decode)
+        }
+        Step::Unset(place) => {
+            let marks = marks_at(rt, tracks, place);
+            marks == marks.unset_marks()
+        }
+        _ => false,
     }
-    Ok(ranges.len() == wanted.len())
 }
 
 /// The marks of the track at a place.
-fn marks_at<S: FrameStore>(tracks: &Tracks<S>, place: usize) -> Result<Marks, Fail> {
-    Ok(tracks.get(place).ok_or("no track")?.marks)
+fn marks_at<S: FrameStore>(rt: &impl Abort, tracks: &Tracks<S>, place: usize) -> Marks {
+    tracks.get(place).expect(rt, "a track").marks
 }
 
 /// Whether tracks and settings are as is wanted.
 fn has<S: FrameStore>(
+    rt: &impl Abort,
     tracks: &Tracks<S>,
     settings: &Settings,
     scale: u32,
     step: &Step,
-) -> Result<bool, Fail> {
+) -> bool {
     match *step {
-        Step::Offset(m) => Ok(settings.offset == time(i128::from(m), scale)?),
-        Step::GroupEnd(m) => Ok(settings.group_end == time(i128::from(m), scale)?),
-        Step::NoGroupStart => Ok(settings.group_start.is_none()),
-        Step::Frames(wanted) => has_frames(tracks, scale, wanted),
-        Step::Ranges(wanted) => has_ranges(tracks, wanted),
-        Step::HighestEnd(m) => {
-            let end = time(i128::from(m), scale)?;
-            Ok(marks_at(tracks, 0)?.highest_end == Some(end))
-        }
-        Step::Marks(place, first, received, decode) => {
-            let marks = marks_at(tracks, place)?;
-            let decode = time(i128::from(decode), scale)?;
-            let counts = marks.group_first == first && marks.received == received;
-            Ok(counts && marks.last_decode == Some(decode))
-        }
-        Step::Unset(place) => {
-            let marks = marks_at(tracks, place)?;
-            Ok(marks == marks.unset_marks())
-        }
-        _ => Ok(true),
+        Step::Offset(m) => settings.offset == time(rt, i128::from(m), scale),
+        Step::GroupEnd(m) => settings.group_end == time(rt, i128::from(m), scale),
+        Step::NoGroupStart => settings.group_start.is_none(),
+        _ => has_track(rt, tracks, scale, step),
     }
 }
 
 /// Takes a step; whether that comes of it which is wanted.
 fn does<S: FrameStore>(
-    alloc: Global,
+    rt: &(impl Abort + AllocGlobal),
     tracks: &mut Tracks<S>,
     settings: &mut Settings,
     scale: u32,
     step: &Step,
-) -> Result<bool, Fail>
+) -> Result<bool, OutOfMemory>
     requires sound_and_countable { AreSoundAndCountable (states_of S.frames tracks.old.items) }
     requires window_start { pos 0 ≤ℤ settings.old.window_start }
     ensures sound_and_countable { AreSoundAndCountable (states_of S.frames tracks.new.items) }
@@ -205,16 +176,15 @@ fn does<S: FrameStore>(
 {
     match *step {
         Step::PlaceAll(samples) => {
-            feed_all(alloc, tracks, settings, scale, samples)?;
+            feed_all(rt, tracks, settings, scale, samples)?;
             Ok(true)
         }
         Step::Place(index, sample, wanted) => {
-            places(alloc, tracks, settings, scale, (index, sample, wanted))
+            let frame = frame_of(rt, scale, &sample);
+            assert!(rt; index < tracks.len());
+            Ok(feed(tracks, settings, index, frame)? == wanted)
         }
-        _ => {
-            set(settings, scale, step)?;
-            has(tracks, settings, scale, step)
-        }
+        _ => Ok(sets(rt, settings, scale, step) || has(rt, tracks, settings, scale, step)),
     }
 }
 
@@ -241,8 +211,8 @@ fn run<S: FrameStore>(rt: &(impl Abort + AllocGlobal), case: &Case) -> Result<()
     let mut tracks = tracks_of::<S>(rt.alloc(), kinds)?;
     let mut settings = segments();
     for (i, step) in steps.iter().enumerate() {
-        let as_wanted = does(rt.alloc(), &mut tracks, &mut settings, scale, step)?;
-        assert!(rt; as_wanted, "{name}, step {i}");
+        let as_wanted = does(rt, &mut tracks, &mut settings, scale, step)?;
+        expect(rt, name, i, as_wanted);
     }
     Ok(())
 }
@@ -546,38 +516,37 @@ fn goes_on_after_leaps(rt: HostRuntime) -> Result<(), Fail> {
     Ok(())
 }
 
-/// What a track with no frames answers to its first frame, its marks, and the settings after it.
+/// What a track with no frames answers to its first frame, its marks, and how many frames it has.
 fn first_call(
-    alloc: Global,
+    rt: &(impl Abort + AllocGlobal),
     settings: &mut Settings,
     received: u64,
-    pts: i64,
+    pts: i128,
     sync: bool,
-) -> Result<(Placed, Marks, usize), Fail>
+) -> Result<(Placed, Marks, usize), OutOfMemory>
     requires window_start { pos 0 ≤ℤ settings.old.window_start }
     requires few { received ≤ 2 ^ 62 }
 {
-    let mut tracks = one_track::<ListStore>(alloc, Kind::Video, received)?;
-    let begin = Ticks::new(i128::from(pts)).ok_or("no time")?;
-    let length = Ticks::new(10).ok_or("no time")?;
-    let dur = not_negative(length).ok_or("no duration")?;
+    let mut tracks = one_track::<ListStore>(rt.alloc(), Kind::Video, received)?;
+    let begin = ticks(rt, pts);
+    let dur = not_negative(rt, ticks(rt, 10));
     let frame = CodedFrame {
         track_id: 1,
         pts: begin,
         dts: begin,
         dur,
         sync,
-        payload: Bytes::copy_of(alloc, b"1234")?,
+        payload: Bytes::copy_of(rt.alloc(), b"1234")?,
     };
     let placed = feed(&mut tracks, settings, 0, frame)?;
-    let track = tracks.get(0).ok_or("no track")?;
+    let track = tracks.get(0).expect(rt, "a track");
     Ok((placed, track.marks, track.store.len()))
 }
 
 /// A name; how much later the append window starts and the offset, in ticks; how many frames the
 /// track has received; the time of the frame, and whether it is a random access point; and what
 /// becomes of it. A frame that is refused leaves marks and settings.
-type FirstFrame = (&'static str, i128, i128, u64, i64, bool, Placed);
+type FirstFrame = (&'static str, i128, i128, u64, i128, bool, Placed);
 
 const FIRST_FRAMES: [FirstFrame; 4] = [
     (
@@ -594,35 +563,38 @@ const FIRST_FRAMES: [FirstFrame; 4] = [
     ("received_too_many", 0, 0, 1 << 62, 0, true, Placed::Counts),
 ];
 
-/// Whether what is wanted becomes of a first frame, which is not stored.
-fn is_answered(alloc: Global, frame: &FirstFrame) -> Result<bool, Fail> {
-    let (_, start, offset, received, pts, sync, wanted) = *frame;
-    let start = Ticks::new(start).ok_or("no time")?;
-    if received > 1 << 62 {
-        return Err("too many frames".into());
-    }
-    let mut settings = segments();
-    settings.window_start = not_negative(start).ok_or("no time")?;
-    settings.offset = Ticks::new(offset).ok_or("no time")?;
-    let before = settings;
-    let (placed, marks, len) = first_call(alloc, &mut settings, received, pts, sync)?;
-    let after = match wanted {
+/// Whether these are the marks behind a first frame of which this becomes.
+fn are_marks_behind(marks: &Marks, received: u64, placed: Placed) -> bool {
+    match placed {
         Placed::Stored | Placed::Dropped(_) => marks.received == 1 && marks.need_sync,
         Placed::TimeRange | Placed::Counts => {
             let unset = Marks {
                 received,
                 ..Marks::new()
             };
-            marks == unset && settings == before
+            *marks == unset
         }
-    };
-    Ok(placed == wanted && after && len == 0)
+    }
+}
+
+/// Whether what is wanted becomes of a first frame, which is not stored.
+fn is_answered(rt: &(impl Abort + AllocGlobal), frame: &FirstFrame) -> Result<bool, OutOfMemory> {
+    let (_, start, offset, received, pts, sync, wanted) = *frame;
+    assert!(rt; received <= 1 << 62);
+    let mut settings = segments();
+    settings.window_start = not_negative(rt, ticks(rt, start));
+    settings.offset = ticks(rt, offset);
+    let before = settings;
+    let (placed, marks, len) = first_call(rt, &mut settings, received, pts, sync)?;
+    let refused = matches!(wanted, Placed::TimeRange | Placed::Counts);
+    let as_before = !refused || settings == before;
+    Ok(placed == wanted && len == 0 && as_before && are_marks_behind(&marks, received, wanted))
 }
 
 #[test]
 fn answers_to_a_first_frame(rt: HostRuntime) -> Result<(), Fail> {
-    for frame in &FIRST_FRAMES {
-        assert!(rt; is_answered(rt.alloc(), frame)?, "{}", frame.0);
+    for (i, frame) in FIRST_FRAMES.iter().enumerate() {
+        expect(&rt, frame.0, i, is_answered(&rt, frame)?);
     }
     Ok(())
 }
@@ -632,7 +604,7 @@ fn begins_at_the_group_start(rt: HostRuntime) -> Result<(), Fail> {
     let mut sequence = segments();
     sequence.sequence = true;
     sequence.group_start = Ticks::new(100);
-    let (placed, marks, len) = first_call(rt.alloc(), &mut sequence, 0, 5, true)?;
+    let (placed, marks, len) = first_call(&rt, &mut sequence, 0, 5, true)?;
     assert!(rt; placed == Placed::Stored && len == 1);
     assert!(rt; sequence.offset.get() == 95 && sequence.group_end.get() == 110);
     assert!(rt; sequence.group_start == None);
@@ -646,7 +618,7 @@ fn places_beside_a_track_that_is_not_sound(rt: HostRuntime) -> Result<(), Fail> 
     let mut tracks = beside_unsound::<ListStore>(rt.alloc())?;
     let mut settings = segments();
     reserve_at(&mut tracks, 0)?;
-    let frame = frame_of(rt.alloc(), 1000, &(0, 100, 0, true))?;
+    let frame = frame_of(&rt, 1000, &(0, 100, 0, true));
     assert!(rt; place(&mut tracks, &mut settings, 0, frame) == Placed::Stored);
     let other = tracks.get(1).ok_or("no track")?.marks;
     assert!(rt; !other.need_sync && other.received == 0);

@@ -2,6 +2,7 @@
 //! frame lasts 100.
 
 use super::frames::{Sample, When, add_track, frame_of, has_frames, moment, time};
+use super::rows::expect;
 use mse_base::{Kind, Moment, Ticks};
 use range_removal::remove_frames;
 use std::alloc::Global;
@@ -135,8 +136,8 @@ const CASES: [Case; 6] = [
 
 #[test]
 fn removes(rt: HostRuntime) -> Result<(), Fail> {
-    for case in &CASES {
-        assert!(rt; leaves(rt.alloc(), case)?, "{}", case.0);
+    for (i, case) in CASES.iter().enumerate() {
+        expect(&rt, case.0, i, leaves(rt.alloc(), case)?);
     }
     Ok(())
 }
@@ -163,8 +164,18 @@ fn greatest_serial(alloc: Global) -> Result<Tracks<ListStore>, Fail> {
 fn removes_the_greatest_serial(rt: HostRuntime) -> Result<(), Fail> {
     let mut tracks = greatest_serial(rt.alloc())?;
     remove_frames(&mut tracks, time(50)?, moment(When::At(60))?, Moment::Nan);
-    assert!(rt; is_left(&tracks, 0, &(&[100], true))?, "before the frame");
+    expect(
+        &rt,
+        "before the frame",
+        0,
+        is_left(&tracks, 0, &(&[100], true))?,
+    );
     remove_frames(&mut tracks, time(50)?, Moment::Infinite, Moment::Infinite);
-    assert!(rt; is_left(&tracks, 0, &(&[], false))?, "over the frame");
+    expect(
+        &rt,
+        "over the frame",
+        0,
+        is_left(&tracks, 0, &(&[], false))?,
+    );
     Ok(())
 }

@@ -1,70 +1,50 @@
-//! Rows of numbers: what a call takes, and what it is to tell.
+//! Rows of tables, and ranges that are told by the numbers of their ticks.
+
+ghost use Rattle.std.specs.Prelude.{◌≤ℤ◌, pos};
 
 use mse_base::{Ranges, Span, Ticks};
-use std::alloc::Global;
-use std::test::Fail;
+use std::process::Abort;
 
-/// The number at a place of a row.
-pub(super) fn number_at(numbers: &[i128], place: usize) -> Result<i128, Fail> {
-    Ok(*numbers.get(place).ok_or("no number")?)
+/// The start and the end of a range, in ticks.
+pub(super) type Bounds = (i128, i128);
+
+/// Asserts that what a row of a case says holds.
+pub(super) fn expect(rt: &impl Abort, case: &str, row: usize, holds: bool) {
+    assert!(rt; holds, "{case}, row {row}");
 }
 
-/// The number at a place of a row, as a place or a count.
-pub(super) fn count_at(numbers: &[i128], place: usize) -> Result<usize, Fail> {
-    let number = number_at(numbers, place)?;
-    Ok(usize::try_from(number).ok().ok_or("no count")?)
+/// The same time, which is not to be negative.
+pub(super) fn not_negative(rt: &impl Abort, t: Ticks) -> Ticks
+    ensures { pos 0 ≤ℤ result }
+{
+    assert!(rt; 0 <= t.get());
+    t
 }
 
-/// The ticks at a place of a row.
-pub(super) fn ticks_at(numbers: &[i128], place: usize) -> Result<Ticks, Fail> {
-    Ok(Ticks::new(number_at(numbers, place)?).ok_or("no time")?)
+pub(super) fn ticks(rt: &impl Abort, number: i128) -> Ticks {
+    Ticks::new(number).expect(rt, "ticks in range")
 }
 
-/// The span that begins with the ticks at a place, and ends with those behind them.
-pub(super) fn span_at(numbers: &[i128], place: usize) -> Result<Span, Fail> {
-    let behind = numbers.get(place..).ok_or("no span")?;
-    Ok(Span {
-        start: ticks_at(behind, 0)?,
-        end: ticks_at(behind, 1)?,
-    })
-}
-
-/// One number.
-pub(super) fn one(alloc: Global, number: i128) -> Result<Vec<i128>, Fail> {
-    let mut told = Vec::new(alloc);
-    told.push(number)?;
-    Ok(told)
-}
-
-/// 1 where it is so, and 0 where it is not.
-pub(super) fn yes(alloc: Global, so: bool) -> Result<Vec<i128>, Fail> {
-    one(alloc, if so { 1 } else { 0 })
-}
-
-/// The start and the end of a span.
-fn push_bounds(told: &mut Vec<i128>, span: Span) -> Result<(), Fail> {
-    told.push(span.start.get())?;
-    told.push(span.end.get())?;
-    Ok(())
-}
-
-/// The start and the end of a span; no number where there is none.
-pub(super) fn bounds(alloc: Global, span: Option<Span>) -> Result<Vec<i128>, Fail> {
-    let mut told = Vec::new(alloc);
-    if let Some(span) = span {
-        push_bounds(&mut told, span)?;
+pub(super) fn span(rt: &impl Abort, bounds: Bounds) -> Span {
+    Span {
+        start: ticks(rt, bounds.0),
+        end: ticks(rt, bounds.1),
     }
-    Ok(told)
 }
 
-/// The start and the end of each range. Behind the last there is none.
-pub(super) fn all_bounds(alloc: Global, ranges: &Ranges) -> Result<Vec<i128>, Fail> {
-    let mut told = Vec::new(alloc);
-    for i in 0..ranges.len() {
-        push_bounds(&mut told, ranges.get(i).ok_or("no range")?)?;
+pub(super) fn bounds_of(span: Option<Span>) -> Option<Bounds> {
+    match span {
+        Some(span) => Some((span.start.get(), span.end.get())),
+        None => None,
     }
-    if ranges.get(ranges.len()).is_some() {
-        return Err("a range behind the last".into());
+}
+
+/// Whether these are all ranges, in this order.
+pub(super) fn are(ranges: &Ranges, wanted: &[Bounds]) -> bool {
+    for (i, bounds) in wanted.iter().enumerate() {
+        if bounds_of(ranges.get(i)) != Some(*bounds) {
+            return false;
+        }
     }
-    Ok(told)
+    ranges.len() == wanted.len() && ranges.get(wanted.len()).is_none()
 }

@@ -3,7 +3,7 @@
 ghost use Rattle.std.specs.Prelude.{◌≡◌, true, length, IfOk};
 ghost use Rattle.track_store.specs.Frames.{IsTimed};
 
-use super::rows::{all_bounds, bounds, count_at, one, ticks_at};
+use super::rows::{Bounds, are, bounds_of, expect, ticks};
 use mse_base::{Bytes, CodedFrame, Kind, Moment, Ticks};
 use std::alloc::Global;
 use std::process::Abort;
@@ -33,119 +33,85 @@ fn first_frame(alloc: Global) -> Result<Stored, Fail>
     })
 }
 
-/// What a store is asked.
-#[derive(Clone, Copy)]
-enum Look {
-    Length,
-    /// The serial of the frame at a place.
-    Serial,
-    /// The frame that is overlapped at a time.
-    Overlapped,
-    /// The random access point at or after a time, or the first of all.
-    SyncAtOrAfter,
-    SyncAtOrAfterInfinity,
-    HighestStart,
-    HighestEnd,
-    Used,
-    Ranges,
-    SpanHolding,
-    LastSpan,
-}
+/// What a store tells of all its frames: how many they are and how many bytes they have, the highest
+/// start and the highest end, in ticks, and the last range.
+type Told = (usize, u64, Option<i128>, Option<i128>, Option<Bounds>);
 
-/// A question, the number that it takes, and the numbers that are to be told.
-type Row = (Look, &'static [i128], &'static [i128]);
+/// What is told of a random access point from 0 to 10, of four bytes.
+const WITH_A_FRAME: Told = (1, 4, Some(0), Some(10), Some((0, 10)));
 
-/// A time; none where there is none.
-fn tick(alloc: Global, t: Option<Ticks>) -> Result<Vec<i128>, Fail> {
+const WITH_NONE: Told = (0, 0, None, None, None);
+
+/// Places, and the serial of the frame there.
+const SERIALS: [(usize, Option<u64>); 2] = [(0, Some(0)), (1, None)];
+
+/// Times in ticks, and the place of the frame that is overlapped there.
+const OVERLAPPED: [(i128, Option<usize>); 2] = [(0, Some(0)), (10, None)];
+
+fn number_of(t: Option<Ticks>) -> Option<i128> {
     match t {
-        Some(t) => one(alloc, t.get()),
-        None => Ok(Vec::new(alloc)),
+        Some(t) => Some(t.get()),
+        None => None,
     }
 }
 
-/// A place; none where there is none.
-fn place(alloc: Global, place: Option<usize>) -> Result<Vec<i128>, Fail> {
-    match place {
-        Some(place) => one(alloc, place as i128),
-        None => Ok(Vec::new(alloc)),
+fn told_of<S: FrameStore>(store: &S) -> Told {
+    (
+        store.len(),
+        store.used(),
+        number_of(store.highest_start()),
+        number_of(store.highest_end()),
+        bounds_of(store.last_span()),
+    )
+}
+
+/// The first random access point of all, the first at or after 0, and the first after all times.
+fn syncs_of<S: FrameStore>(rt: &impl Abort, store: &S) -> [Option<i128>; 3] {
+    [
+        number_of(store.sync_at_or_after(Moment::Nan)),
+        number_of(store.sync_at_or_after(Moment::At(ticks(rt, 0)))),
+        number_of(store.sync_at_or_after(Moment::Infinite)),
+    ]
+}
+
+fn serial_at<S: FrameStore>(store: &S, place: usize) -> Option<u64> {
+    match store.get(place) {
+        Some(stored) => Some(stored.serial),
+        None => None,
     }
 }
 
-/// A time; NaN where there is none.
-fn moment_of(numbers: &[i128]) -> Result<Moment, Fail> {
-    match numbers.first() {
-        Some(_) => Ok(Moment::At(ticks_at(numbers, 0)?)),
-        None => Ok(Moment::Nan),
+/// Asserts what a store tells that holds a random access point from 0 to 10, of four bytes.
+fn tells_a_frame<S: FrameStore>(rt: &impl Abort, store: &S) {
+    for (i, (place, wanted)) in SERIALS.iter().enumerate() {
+        expect(rt, "serials", i, serial_at(store, *place) == *wanted);
     }
-}
-
-/// What a store tells.
-fn told<S: FrameStore>(
-    alloc: Global,
-    store: &S,
-    look: Look,
-    numbers: &[i128],
-) -> Result<Vec<i128>, Fail> {
-    match look {
-        Look::Length => one(alloc, store.len() as i128),
-        Look::Serial => match store.get(count_at(numbers, 0)?) {
-            Some(stored) => one(alloc, i128::from(stored.serial)),
-            None => Ok(Vec::new(alloc)),
-        },
-        Look::Overlapped => place(alloc, store.overlapped(ticks_at(numbers, 0)?)),
-        Look::SyncAtOrAfter => tick(alloc, store.sync_at_or_after(moment_of(numbers)?)),
-        Look::SyncAtOrAfterInfinity => tick(alloc, store.sync_at_or_after(Moment::Infinite)),
-        Look::HighestStart => tick(alloc, store.highest_start()),
-        Look::HighestEnd => tick(alloc, store.highest_end()),
-        Look::Used => one(alloc, i128::from(store.used())),
-        Look::Ranges => all_bounds(alloc, &store.copy_ranges()?),
-        Look::SpanHolding => bounds(alloc, store.span_holding(ticks_at(numbers, 0)?)),
-        Look::LastSpan => bounds(alloc, store.last_span()),
+    for (i, (t, wanted)) in OVERLAPPED.iter().enumerate() {
+        expect(
+            rt,
+            "overlapped",
+            i,
+            store.overlapped(ticks(rt, *t)) == *wanted,
+        );
     }
+    let held = bounds_of(store.span_holding(ticks(rt, 10)));
+    let told = (told_of(store), syncs_of(rt, store), held);
+    let wanted = (WITH_A_FRAME, [Some(0), Some(0), None], Some((0, 10)));
+    expect(rt, "a frame", 0, told == wanted);
+    let ranges = store.copy_ranges().expect(rt, "memory");
+    expect(rt, "ranges", 0, are(&ranges, &[(0, 10)]));
 }
-
-/// Asks a store, and compares what it tells.
-fn expect<S: FrameStore>(
-    rt: &(impl Abort + AllocGlobal),
-    store: &S,
-    rows: &[Row],
-) -> Result<(), Fail> {
-    for (i, (look, numbers, wanted)) in rows.iter().enumerate() {
-        let told = told(rt.alloc(), store, *look, numbers)?;
-        assert_eq!(rt; told.as_slice(), *wanted, "row {i}");
-    }
-    Ok(())
-}
-
-/// What a store tells that holds a random access point from 0 to 10, of four bytes.
-const WITH_A_FRAME: [Row; 14] = [
-    (Look::Length, &[], &[1]),
-    (Look::Serial, &[0], &[0]),
-    (Look::Serial, &[1], &[]),
-    (Look::Overlapped, &[0], &[0]),
-    (Look::Overlapped, &[10], &[]),
-    (Look::SyncAtOrAfter, &[], &[0]),
-    (Look::SyncAtOrAfter, &[0], &[0]),
-    (Look::SyncAtOrAfterInfinity, &[], &[]),
-    (Look::HighestStart, &[], &[0]),
-    (Look::HighestEnd, &[], &[10]),
-    (Look::Used, &[], &[4]),
-    (Look::Ranges, &[], &[0, 10]),
-    (Look::SpanHolding, &[10], &[0, 10]),
-    (Look::LastSpan, &[], &[0, 10]),
-];
-
-const WITH_NONE: [Row; 2] = [(Look::Length, &[], &[0]), (Look::LastSpan, &[], &[])];
 
 fn keeps_a_frame<S: FrameStore>(rt: &(impl Abort + AllocGlobal)) -> Result<(), Fail> {
     let mut store = S::new(rt.alloc(), Ticks::zero());
     store.reserve(1)?;
     store.add(first_frame(rt.alloc())?);
-    expect(rt, &store, &WITH_A_FRAME)?;
+    tells_a_frame(rt, &store);
     store.remove_where_time(Ticks::zero(), Moment::Infinite, 0);
-    expect(rt, &store, &WITH_A_FRAME)?;
+    tells_a_frame(rt, &store);
     store.remove_where_time(Ticks::zero(), Moment::Infinite, 1);
-    expect(rt, &store, &WITH_NONE)
+    expect(rt, "no frame", 0, told_of(&store) == WITH_NONE);
+    Ok(())
 }
 
 #[test]
@@ -153,26 +119,41 @@ fn keeps_a_frame_in_a_list(rt: HostRuntime) -> Result<(), Fail> {
     keeps_a_frame::<ListStore>(&rt)
 }
 
+/// Whether the first frame has the serial 0.
+fn has_a_frame<S: FrameStore>(store: &S) -> bool {
+    match look_up(store, &StoreLook::Get(0)) {
+        StoreAnswer::Frame(Some(stored)) => stored.serial == 0,
+        _ => false,
+    }
+}
+
+fn has_one_range<S: FrameStore>(store: &S) -> bool {
+    match look_up(store, &StoreLook::CopyRanges) {
+        StoreAnswer::Ranges(Ok(ranges)) => ranges.len() == 1,
+        _ => false,
+    }
+}
+
+fn has_no_frame<S: FrameStore>(store: &S) -> bool {
+    match look_up(store, &StoreLook::Len) {
+        StoreAnswer::Frames(count) => count == 0,
+        _ => false,
+    }
+}
+
 fn answers_calls<S: FrameStore>(rt: &(impl Abort + AllocGlobal)) -> Result<(), Fail> {
     let mut store = S::new(rt.alloc(), Ticks::zero());
     change(&mut store, StoreChange::Reserve(1))?;
     store.add(first_frame(rt.alloc())?);
-    match look_up(&store, &StoreLook::Get(0)) {
-        StoreAnswer::Frame(Some(stored)) => assert!(rt; stored.serial == 0),
-        _ => return Err("no frame".into()),
-    }
-    match look_up(&store, &StoreLook::CopyRanges) {
-        StoreAnswer::Ranges(Ok(ranges)) => assert!(rt; ranges.len() == 1),
-        _ => return Err("no ranges".into()),
-    }
-    change(
-        &mut store,
-        StoreChange::RemoveWhereTime(Ticks::zero(), Moment::Infinite, 1),
-    )?;
-    match look_up(&store, &StoreLook::Len) {
-        StoreAnswer::Frames(count) => assert!(rt; count == 0),
-        _ => return Err("no count".into()),
-    }
+    expect(
+        rt,
+        "a frame",
+        0,
+        has_a_frame(&store) && has_one_range(&store),
+    );
+    let removal = StoreChange::RemoveWhereTime(Ticks::zero(), Moment::Infinite, 1);
+    change(&mut store, removal)?;
+    expect(rt, "no frame", 0, has_no_frame(&store));
     Ok(())
 }
 

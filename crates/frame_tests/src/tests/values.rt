@@ -1,16 +1,15 @@
 //! Ticks and ranges, and copies of bytes, texts and presentations.
 
-ghost use Rattle.std.specs.Prelude.{◌≤ℤ◌, pos, IfOk};
+ghost use Rattle.std.specs.Prelude.{◌≤ℤ◌, pos};
 ghost use Rattle.mse_base.specs.Bridging.{IsRanges};
 
-use super::rows::{all_bounds, bounds, count_at, one, span_at, ticks_at, yes};
+use super::rows::{Bounds, are, expect, not_negative, span, ticks};
 use mse_base::{
-    Bytes, Kind, Moment, OutOfMemory, Presentation, Ranges, Text, Ticks, TrackInfo, TrackList,
-    convert,
+    Bytes, Kind, Moment, OutOfMemory, Presentation, Ranges, Span, Text, Ticks, TrackInfo,
+    TrackList, convert,
 };
 use std::alloc::Global;
 use std::process::Abort;
-use std::test::Fail;
 
 /// Media times, how many units a second has, and the ticks; none where they are out of range.
 const CONVERSIONS: [(i128, u32, Option<i128>); 6] = [
@@ -27,432 +26,358 @@ const CONVERSIONS: [(i128, u32, Option<i128>); 6] = [
 ];
 
 /// The ticks of a media time.
-fn conversion(m: i128, scale: u32) -> Result<Option<i128>, Fail> {
-    if m.unsigned_abs() > 1 << 80 || scale == 0 {
-        return Err("no media time".into());
-    }
+fn conversion(rt: &impl Abort, m: i128, scale: u32) -> Option<i128> {
+    assert!(rt; m.unsigned_abs() <= 1 << 80 && scale != 0);
     match convert(m, scale) {
-        Some(t) => Ok(Some(t.get())),
-        None => Ok(None),
+        Some(t) => Some(t.get()),
+        None => None,
     }
 }
 
 #[test]
-fn converts(rt: HostRuntime) -> Result<(), Fail> {
-    for (m, scale, wanted) in &CONVERSIONS {
-        assert!(rt; conversion(*m, *scale)? == *wanted, "{m} at {scale}");
-    }
-    Ok(())
-}
-
-/// Numbers that are no ticks.
-const OUT_OF_RANGE: [i128; 2] = [(1 << 110) + 1, -(1 << 110) - 1];
-
-#[test]
-fn keeps_ticks_in_range(rt: HostRuntime) -> Result<(), Fail> {
-    for number in &OUT_OF_RANGE {
-        assert!(rt; Ticks::new(*number).is_none(), "{number}");
-    }
-    let most = Ticks::new(1 << 110).ok_or("no time")?;
-    let one = Ticks::new(1).ok_or("no time")?;
-    assert!(rt; most.checked_add(one).is_none());
-    assert!(rt; most.checked_sub(one) == Ticks::new((1 << 110) - 1));
-    Ok(())
-}
-
-/// A call on ranges, or what they are to tell. A call that is no question is followed by all ranges.
-#[derive(Clone, Copy)]
-enum RangesCall {
-    /// Ranges of spans that are added one by one, where ranges at a gap of so many ticks are one.
-    Join,
-    /// The same with no gap, on which the next calls are made.
-    Make,
-    /// Spans of 5 ticks at each tenth tick up to 30,000, in no order: more than one block has room
-    /// for.
-    MakeMany,
-    /// The same, and spans that fill the first 1,400 gaps but for each second one.
-    FillMany,
-    /// Makes room for so many more.
-    Reserve,
-    /// Adds a span to none, as the last.
-    AddFirst,
-    Add,
-    Carve,
-    Clear,
-    Length,
-    IsEmpty,
-    /// Whether there is room for so many more.
-    HasRoom,
-    Get,
-    Last,
-    Holding,
-    Bridge,
-    Union,
-    Meet,
-    Copy,
-    /// How many ranges the union with a copy has.
-    UnionWithCopy,
-    /// How many ranges the common part with a copy has.
-    MeetWithCopy,
-    /// Of so many ranges that begin at each multiple of a number, and are so long, the places of
-    /// those that are others, or have another range at or behind their end.
-    Others,
-}
-
-/// A call, the numbers that it takes, and those that it is to tell.
-type Row = (RangesCall, &'static [i128], &'static [i128]);
-
-/// Ranges of spans that are added one by one, at a gap.
-fn ranges_of(alloc: Global, numbers: &[i128], gap: Ticks) -> Result<Ranges, Fail>
-    requires { pos 0 ≤ℤ gap }
-    ensures { IfOk result (λ r. IsRanges gap r.spans) }
-{
-    let mut ranges = Ranges::new(alloc);
-    for i in 0..numbers.len() / 2 {
-        ranges.reserve(1)?;
-        ranges.add_span(span_at(numbers, 2 * i)?, gap);
-    }
-    Ok(ranges)
-}
-
-/// Ranges of spans that are added one by one, at the gap that stands first.
-fn joined(alloc: Global, numbers: &[i128]) -> Result<Ranges, Fail> {
-    let gap = ticks_at(numbers, 0)?;
-    let spans = numbers.get(1..).ok_or("no spans")?;
-    if gap < Ticks::zero() {
-        return Err("no gap".into());
-    }
-    ranges_of(alloc, spans, gap)
-}
-
-/// Spans of 5 ticks at each tenth tick, in no order.
-fn many_spans(alloc: Global) -> Result<Vec<i128>, OutOfMemory> {
-    let mut numbers = Vec::new(alloc);
-    for i in 0..3000_usize {
-        let start = i * 1009 % 3000 * 10;
-        numbers.push(start as i128)?;
-        numbers.push((start + 5) as i128)?;
-    }
-    Ok(numbers)
-}
-
-/// Those, and spans that fill the first 1,400 gaps but for each second one.
-fn filling_spans(alloc: Global) -> Result<Vec<i128>, OutOfMemory> {
-    let mut numbers = many_spans(alloc)?;
-    for i in 0..700_usize {
-        let start = i * 20 + 5;
-        numbers.push(start as i128)?;
-        numbers.push((start + 5) as i128)?;
-    }
-    Ok(numbers)
-}
-
-/// Adds a span to no ranges as their last.
-fn add_first(ranges: &mut Ranges, numbers: &[i128]) -> Result<(), Fail>
-    requires { IsRanges (pos 0) ranges.old.spans }
-    ensures { IsRanges (pos 0) ranges.new.spans }
-{
-    let span = span_at(numbers, 0)?;
-    ranges.clear();
-    ranges.reserve(1)?;
-    ranges.add_last(span, Ticks::zero());
-    Ok(())
-}
-
-fn add(ranges: &mut Ranges, numbers: &[i128]) -> Result<(), Fail>
-    requires { IsRanges (pos 0) ranges.old.spans }
-    ensures { IsRanges (pos 0) ranges.new.spans }
-{
-    let span = span_at(numbers, 0)?;
-    ranges.reserve(1)?;
-    ranges.add_span(span, Ticks::zero());
-    Ok(())
-}
-
-/// Carves a span out, which leaves the room as it is.
-fn carve(ranges: &mut Ranges, numbers: &[i128]) -> Result<(), Fail>
-    requires { IsRanges (pos 0) ranges.old.spans }
-    ensures { IsRanges (pos 0) ranges.new.spans }
-{
-    let hole = span_at(numbers, 0)?;
-    ranges.reserve(1)?;
-    let room = ranges.spare().checked_add(ranges.len());
-    if hole.start < hole.end {
-        ranges.carve(hole, Ticks::zero());
-    }
-    if ranges.spare().checked_add(ranges.len()) != room {
-        return Err("another room".into());
-    }
-    Ok(())
-}
-
-/// Makes a call that changes the ranges.
-fn change(
-    alloc: Global,
-    ranges: &mut Ranges,
-    call: RangesCall,
-    numbers: &[i128],
-) -> Result<(), Fail>
-    requires { IsRanges (pos 0) ranges.old.spans }
-    ensures { IsRanges (pos 0) ranges.new.spans }
-{
-    let none = Ticks::zero();
-    match call {
-        RangesCall::Make => *ranges = ranges_of(alloc, numbers, none)?,
-        RangesCall::MakeMany => *ranges = ranges_of(alloc, many_spans(alloc)?.as_slice(), none)?,
-        RangesCall::FillMany => *ranges = ranges_of(alloc, filling_spans(alloc)?.as_slice(), none)?,
-        RangesCall::Reserve => ranges.reserve(count_at(numbers, 0)?)?,
-        RangesCall::AddFirst => add_first(ranges, numbers)?,
-        RangesCall::Add => add(ranges, numbers)?,
-        RangesCall::Carve => carve(ranges, numbers)?,
-        RangesCall::Clear => ranges.clear(),
-        _ => {}
-    }
-    Ok(())
-}
-
-/// Whether a range stands at a place, is held by its end, and no tick behind its end.
-fn is_range_at(ranges: &Ranges, place: usize, start: Ticks, length: Ticks) -> Option<bool> {
-    let end = start.checked_add(length)?;
-    let behind = end.checked_add(Ticks::new(1)?)?;
-    match (ranges.get(place), ranges.holding(end)) {
-        (Some(found), Some(held)) => {
-            let same = found.start == start && found.end == end;
-            Some(same && held == found && ranges.holding(behind).is_none())
-        }
-        _ => Some(false),
+fn converts(rt: HostRuntime) {
+    for (i, (m, scale, wanted)) in CONVERSIONS.iter().enumerate() {
+        let told = conversion(&rt, *m, *scale);
+        expect(&rt, "a media time", i, told == *wanted);
     }
 }
 
-/// Of so many ranges that begin at each multiple of a number, and are so long, the places of the
-/// others.
-fn others(alloc: Global, ranges: &Ranges, numbers: &[i128]) -> Result<Vec<i128>, Fail> {
-    let step = ticks_at(numbers, 1)?;
-    let length = ticks_at(numbers, 2)?;
-    let mut told = Vec::new(alloc);
-    let mut start = Ticks::zero();
-    for place in 0..count_at(numbers, 0)? {
-        if !is_range_at(ranges, place, start, length).ok_or("no time")? {
-            told.push(place as i128)?;
-        }
-        start = start.checked_add(step).ok_or("no time")?;
-    }
-    Ok(told)
-}
-
-/// What the ranges tell beside or together with others.
-fn combined(
-    alloc: Global,
-    ranges: &Ranges,
-    call: RangesCall,
-    numbers: &[i128],
-) -> Result<Vec<i128>, Fail> {
-    let other = ranges_of(alloc, numbers, Ticks::zero())?;
-    match call {
-        RangesCall::Union => all_bounds(alloc, &ranges.union(&other)?),
-        RangesCall::Meet => all_bounds(alloc, &ranges.meet(&other)?),
-        RangesCall::UnionWithCopy => one(alloc, ranges.union(&ranges.copy()?)?.len() as i128),
-        _ => one(alloc, ranges.meet(&ranges.copy()?)?.len() as i128),
-    }
-}
-
-/// What the ranges tell.
-fn told(
-    alloc: Global,
-    ranges: &Ranges,
-    call: RangesCall,
-    numbers: &[i128],
-) -> Result<Vec<i128>, Fail> {
-    match call {
-        RangesCall::Join => all_bounds(alloc, &joined(alloc, numbers)?),
-        RangesCall::Length => one(alloc, ranges.len() as i128),
-        RangesCall::IsEmpty => yes(alloc, ranges.is_empty()),
-        RangesCall::HasRoom => yes(alloc, ranges.spare() >= count_at(numbers, 0)?),
-        RangesCall::Get => bounds(alloc, ranges.get(count_at(numbers, 0)?)),
-        RangesCall::Last => bounds(alloc, ranges.last()),
-        RangesCall::Holding => bounds(alloc, ranges.holding(ticks_at(numbers, 0)?)),
-        RangesCall::Bridge => all_bounds(alloc, &ranges.bridge(ticks_at(numbers, 0)?)?),
-        RangesCall::Copy => all_bounds(alloc, &ranges.copy()?),
-        RangesCall::Others => others(alloc, ranges, numbers),
-        RangesCall::Union
-        | RangesCall::Meet
-        | RangesCall::UnionWithCopy
-        | RangesCall::MeetWithCopy => combined(alloc, ranges, call, numbers),
-        RangesCall::MakeMany | RangesCall::FillMany => one(alloc, ranges.len() as i128),
-        _ => all_bounds(alloc, ranges),
-    }
-}
-
-/// Makes the calls of a case one behind the other, and compares what each tells.
-fn run(rt: &(impl Abort + AllocGlobal), case: &str, rows: &[Row]) -> Result<(), Fail> {
-    let mut ranges = Ranges::new(rt.alloc());
-    for (i, (call, numbers, wanted)) in rows.iter().enumerate() {
-        change(rt.alloc(), &mut ranges, *call, numbers)?;
-        let told = told(rt.alloc(), &ranges, *call, numbers)?;
-        assert_eq!(rt; told.as_slice(), *wanted, "{case}, row {i}");
-    }
-    Ok(())
-}
-
-const CASES: [(&str, &[Row]); 8] = [
-    (
-        "bridges_gaps",
-        &[
-            (
-                RangesCall::Make,
-                &[0, 10, 14, 20, 25, 30, 36, 40],
-                &[0, 10, 14, 20, 25, 30, 36, 40],
-            ),
-            (RangesCall::Bridge, &[-7], &[0, 10, 14, 20, 25, 30, 36, 40]),
-            (RangesCall::Bridge, &[0], &[0, 10, 14, 20, 25, 30, 36, 40]),
-            (RangesCall::Bridge, &[4], &[0, 20, 25, 30, 36, 40]),
-            (RangesCall::Bridge, &[5], &[0, 30, 36, 40]),
-            (RangesCall::Bridge, &[6], &[0, 40]),
-        ],
-    ),
-    (
-        "joins_at_gaps",
-        &[
-            (
-                RangesCall::Join,
-                &[0, 0, 10, 14, 20, 25, 30, 36, 40],
-                &[0, 10, 14, 20, 25, 30, 36, 40],
-            ),
-            (
-                RangesCall::Join,
-                &[4, 0, 10, 14, 20, 25, 30, 36, 40],
-                &[0, 20, 25, 30, 36, 40],
-            ),
-            (
-                RangesCall::Join,
-                &[5, 0, 10, 14, 20, 25, 30, 36, 40],
-                &[0, 30, 36, 40],
-            ),
-            (
-                RangesCall::Join,
-                &[6, 0, 10, 14, 20, 25, 30, 36, 40],
-                &[0, 40],
-            ),
-        ],
-    ),
-    (
-        "adds_and_carves",
-        &[
-            (RangesCall::Reserve, &[3], &[]),
-            (RangesCall::IsEmpty, &[], &[1]),
-            (RangesCall::HasRoom, &[3], &[1]),
-            (
-                RangesCall::AddFirst,
-                &[0, 14_112_000_000],
-                &[0, 14_112_000_000],
-            ),
-            (
-                RangesCall::Add,
-                &[42_336_000_000, 84_672_000_000],
-                &[0, 14_112_000_000, 42_336_000_000, 84_672_000_000],
-            ),
-            (RangesCall::Length, &[], &[2]),
-            (RangesCall::Get, &[0], &[0, 14_112_000_000]),
-            (RangesCall::Get, &[2], &[]),
-            (RangesCall::Last, &[], &[42_336_000_000, 84_672_000_000]),
-            (RangesCall::Holding, &[14_112_000_000], &[0, 14_112_000_000]),
-            (RangesCall::Holding, &[14_112_000_001], &[]),
-            (
-                RangesCall::Carve,
-                &[14_000_000_000, 50_000_000_000],
-                &[0, 14_000_000_000, 50_000_000_000, 84_672_000_000],
-            ),
-            (RangesCall::IsEmpty, &[], &[0]),
-            (RangesCall::Clear, &[], &[]),
-            (RangesCall::Length, &[], &[0]),
-        ],
-    ),
-    (
-        "holds_many",
-        &[
-            (RangesCall::MakeMany, &[], &[3000]),
-            (RangesCall::Others, &[3000, 10, 5], &[]),
-            (RangesCall::Bridge, &[5], &[0, 29_995]),
-        ],
-    ),
-    (
-        "fills_and_combines_many",
-        &[
-            (RangesCall::FillMany, &[], &[2300]),
-            (RangesCall::Others, &[700, 20, 15], &[]),
-            (RangesCall::UnionWithCopy, &[], &[2300]),
-            (RangesCall::MeetWithCopy, &[], &[2300]),
-        ],
-    ),
-    (
-        "carves_many",
-        &[
-            (RangesCall::MakeMany, &[], &[3000]),
-            (RangesCall::Carve, &[3, 29_991], &[0, 3, 29_991, 29_995]),
-        ],
-    ),
-    (
-        "combines",
-        &[
-            (
-                RangesCall::Make,
-                &[0, 10, 20, 30, 40, 50],
-                &[0, 10, 20, 30, 40, 50],
-            ),
-            (
-                RangesCall::Union,
-                &[5, 20, 30, 35, 45, 60],
-                &[0, 35, 40, 60],
-            ),
-            (RangesCall::Meet, &[5, 20, 30, 35, 45, 60], &[5, 10, 45, 50]),
-        ],
-    ),
-    (
-        "copies_ranges",
-        &[
-            (RangesCall::Make, &[0, 10, 20, 30], &[0, 10, 20, 30]),
-            (RangesCall::Copy, &[], &[0, 10, 20, 30]),
-        ],
-    ),
+/// Numbers, and whether they are ticks.
+const NUMBERS: [(i128, bool); 4] = [
+    ((1 << 110) + 1, false),
+    (1 << 110, true),
+    (-(1 << 110), true),
+    (-(1 << 110) - 1, false),
 ];
 
 #[test]
-fn tells_ranges(rt: HostRuntime) -> Result<(), Fail> {
-    for (case, rows) in &CASES {
-        run(&rt, case, rows)?;
+fn keeps_ticks_in_range(rt: HostRuntime) {
+    for (i, (number, wanted)) in NUMBERS.iter().enumerate() {
+        expect(&rt, "a number", i, Ticks::new(*number).is_some() == *wanted);
     }
-    Ok(())
+    let most = ticks(&rt, 1 << 110);
+    let one = ticks(&rt, 1);
+    let told = (most.checked_add(one), most.checked_sub(one));
+    assert!(rt; told == (None, Ticks::new((1 << 110) - 1)));
+}
+
+/// Ranges of spans that are added one by one, at a gap.
+fn ranges_of(rt: &(impl Abort + AllocGlobal), gap: Ticks, spans: &[Bounds]) -> Ranges
+    requires { pos 0 ≤ℤ gap }
+    ensures { IsRanges gap result.spans }
+{
+    let mut ranges = Ranges::new(rt.alloc());
+    for bounds in spans {
+        ranges.reserve(1).expect(rt, "memory");
+        ranges.add_span(span(rt, *bounds), gap);
+    }
+    ranges
+}
+
+/// What is made of ranges.
+#[derive(Clone, Copy)]
+enum Made {
+    Copy,
+    /// Ranges at such a gap are one.
+    Bridged(i128),
+    /// The union with others.
+    Union(&'static [Bounds]),
+    /// What they have in common with others.
+    Meet(&'static [Bounds]),
+}
+
+fn made_of(rt: &(impl Abort + AllocGlobal), ranges: &Ranges, what: Made) -> Ranges {
+    let made = match what {
+        Made::Copy => ranges.copy(),
+        Made::Bridged(gap) => ranges.bridge(ticks(rt, gap)),
+        Made::Union(others) => ranges.union(&ranges_of(rt, Ticks::zero(), others)),
+        Made::Meet(others) => ranges.meet(&ranges_of(rt, Ticks::zero(), others)),
+    };
+    made.expect(rt, "memory")
+}
+
+/// Spans that are added one by one, where ranges at such a gap are one; the ranges then; what is
+/// made of them; and the ranges of that.
+type Row = (
+    &'static [Bounds],
+    i128,
+    &'static [Bounds],
+    Made,
+    &'static [Bounds],
+);
+
+/// Four spans, with a gap of 4, 5 and 6 ticks behind the first three.
+const FOUR: &[Bounds] = &[(0, 10), (14, 20), (25, 30), (36, 40)];
+
+const THREE: &[Bounds] = &[(0, 10), (20, 30), (40, 50)];
+
+const OTHERS: &[Bounds] = &[(5, 20), (30, 35), (45, 60)];
+
+const ROWS: [Row; 12] = [
+    (FOUR, 0, FOUR, Made::Bridged(-7), FOUR),
+    (FOUR, 0, FOUR, Made::Bridged(0), FOUR),
+    (
+        FOUR,
+        0,
+        FOUR,
+        Made::Bridged(4),
+        &[(0, 20), (25, 30), (36, 40)],
+    ),
+    (FOUR, 0, FOUR, Made::Bridged(5), &[(0, 30), (36, 40)]),
+    (FOUR, 0, FOUR, Made::Bridged(6), &[(0, 40)]),
+    (FOUR, 0, FOUR, Made::Copy, FOUR),
+    (
+        FOUR,
+        4,
+        &[(0, 20), (25, 30), (36, 40)],
+        Made::Copy,
+        &[(0, 20), (25, 30), (36, 40)],
+    ),
+    (
+        FOUR,
+        5,
+        &[(0, 30), (36, 40)],
+        Made::Copy,
+        &[(0, 30), (36, 40)],
+    ),
+    (FOUR, 6, &[(0, 40)], Made::Copy, &[(0, 40)]),
+    (THREE, 0, THREE, Made::Union(OTHERS), &[(0, 35), (40, 60)]),
+    (THREE, 0, THREE, Made::Meet(OTHERS), &[(5, 10), (45, 50)]),
+    (
+        &[(0, 10), (20, 30)],
+        0,
+        &[(0, 10), (20, 30)],
+        Made::Copy,
+        &[(0, 10), (20, 30)],
+    ),
+];
+
+/// Whether the ranges are as a row says, before and after others are made of them.
+fn are_made(rt: &(impl Abort + AllocGlobal), row: &Row) -> bool {
+    let (spans, gap, before, what, after) = *row;
+    let ranges = ranges_of(rt, not_negative(rt, ticks(rt, gap)), spans);
+    let made = made_of(rt, &ranges, what);
+    are(&ranges, before) && are(&made, after)
+}
+
+#[test]
+fn bridges_and_combines(rt: HostRuntime) {
+    for (i, row) in ROWS.iter().enumerate() {
+        expect(&rt, "ranges", i, are_made(&rt, row));
+    }
+}
+
+/// A change of ranges that join where they touch.
+#[derive(Clone, Copy)]
+enum Change {
+    /// Adds a range to none, as the last.
+    AddFirst(Bounds),
+    Add(Bounds),
+    Carve(Bounds),
+    Clear,
+}
+
+/// Adds a range to none as their last.
+fn add_first(rt: &impl Abort, ranges: &mut Ranges, bounds: Bounds)
+    requires { IsRanges (pos 0) ranges.old.spans }
+    ensures { IsRanges (pos 0) ranges.new.spans }
+{
+    ranges.clear();
+    ranges.reserve(1).expect(rt, "memory");
+    ranges.add_last(span(rt, bounds), Ticks::zero());
+}
+
+fn add(rt: &impl Abort, ranges: &mut Ranges, bounds: Bounds)
+    requires { IsRanges (pos 0) ranges.old.spans }
+    ensures { IsRanges (pos 0) ranges.new.spans }
+{
+    ranges.reserve(1).expect(rt, "memory");
+    ranges.add_span(span(rt, bounds), Ticks::zero());
+}
+
+/// Carves a span out, which leaves the room as it is.
+fn carve(rt: &impl Abort, ranges: &mut Ranges, bounds: Bounds)
+    requires { IsRanges (pos 0) ranges.old.spans }
+    ensures { IsRanges (pos 0) ranges.new.spans }
+{
+    let hole = span(rt, bounds);
+    if hole.start < hole.end {
+        ranges.reserve(1).expect(rt, "memory");
+        let room = ranges.spare().checked_add(ranges.len());
+        ranges.carve(hole, Ticks::zero());
+        let left = ranges.spare().checked_add(ranges.len());
+        expect(rt, "the room", 0, left == room);
+    }
+}
+
+fn make(rt: &impl Abort, ranges: &mut Ranges, change: Change)
+    requires { IsRanges (pos 0) ranges.old.spans }
+    ensures { IsRanges (pos 0) ranges.new.spans }
+{
+    match change {
+        Change::AddFirst(bounds) => add_first(rt, ranges, bounds),
+        Change::Add(bounds) => add(rt, ranges, bounds),
+        Change::Carve(bounds) => carve(rt, ranges, bounds),
+        Change::Clear => ranges.clear(),
+    }
+}
+
+/// Changes, one behind the other, and the ranges then.
+const CHANGES: [(Change, &[Bounds]); 4] = [
+    (
+        Change::AddFirst((0, 14_112_000_000)),
+        &[(0, 14_112_000_000)],
+    ),
+    (
+        Change::Add((42_336_000_000, 84_672_000_000)),
+        &[(0, 14_112_000_000), (42_336_000_000, 84_672_000_000)],
+    ),
+    (
+        Change::Carve((14_000_000_000, 50_000_000_000)),
+        &[(0, 14_000_000_000), (50_000_000_000, 84_672_000_000)],
+    ),
+    (Change::Clear, &[]),
+];
+
+/// Whether these are all ranges, and the last of them is told.
+fn are_told(rt: &impl Abort, ranges: &Ranges, wanted: &[Bounds]) -> bool {
+    let last = wanted.last().map(|bounds| span(rt, *bounds));
+    ranges.is_empty() == wanted.is_empty() && ranges.last() == last && are(ranges, wanted)
+}
+
+/// Whether a range holds its end, and no range the tick behind it.
+fn holds_end(rt: &impl Abort, ranges: &Ranges, range: &Span) -> bool {
+    let behind = range.end.checked_add(ticks(rt, 1)).expect(rt, "ticks");
+    ranges.holding(range.end) == Some(*range) && ranges.holding(behind) == None
+}
+
+#[test]
+fn adds_and_carves(rt: HostRuntime) {
+    let mut ranges = Ranges::new(rt.alloc());
+    ranges.reserve(3).expect(&rt, "memory");
+    expect(
+        &rt,
+        "no ranges",
+        0,
+        ranges.is_empty() && ranges.spare() >= 3,
+    );
+    for (i, (change, wanted)) in CHANGES.iter().enumerate() {
+        make(&rt, &mut ranges, *change);
+        expect(&rt, "a change", i, are_told(&rt, &ranges, wanted));
+    }
+}
+
+#[test]
+fn holds_times(rt: HostRuntime) {
+    let two = [(0, 14_112_000_000), (42_336_000_000, 84_672_000_000)];
+    let ranges = ranges_of(&rt, Ticks::zero(), &two);
+    let first = span(&rt, (0, 14_112_000_000));
+    assert!(rt; holds_end(&rt, &ranges, &first));
+}
+
+/// Spans of 5 ticks at each tenth tick up to 30,000, in no order: more than one block has room for.
+fn many_spans(rt: &(impl Abort + AllocGlobal)) -> Vec<Bounds> {
+    let mut spans = Vec::new(rt.alloc());
+    for i in 0..3000_usize {
+        let start = i * 1009 % 3000 * 10;
+        spans
+            .push((start as i128, (start + 5) as i128))
+            .expect(rt, "memory");
+    }
+    spans
+}
+
+/// Those, and spans that fill the first 1,400 gaps but for each second one.
+fn filling_spans(rt: &(impl Abort + AllocGlobal)) -> Vec<Bounds> {
+    let mut spans = many_spans(rt);
+    for i in 0..700_usize {
+        let start = i * 20 + 5;
+        spans
+            .push((start as i128, (start + 5) as i128))
+            .expect(rt, "memory");
+    }
+    spans
+}
+
+fn is_range_at(ranges: &Ranges, place: usize, wanted: &Span) -> bool {
+    ranges.get(place) == Some(*wanted)
+}
+
+/// Whether the first ranges begin at each multiple of a number and are so long, and each holds its
+/// end.
+fn are_at_multiples(
+    rt: &impl Abort,
+    ranges: &Ranges,
+    count: usize,
+    step: i128,
+    length: i128,
+) -> bool {
+    let mut start = Ticks::zero();
+    for place in 0..count {
+        let end = start.checked_add(ticks(rt, length)).expect(rt, "ticks");
+        let wanted = Span { start, end };
+        if !is_range_at(ranges, place, &wanted) || !holds_end(rt, ranges, &wanted) {
+            return false;
+        }
+        start = start.checked_add(ticks(rt, step)).expect(rt, "ticks");
+    }
+    true
+}
+
+#[test]
+fn holds_many(rt: HostRuntime) {
+    let ranges = ranges_of(&rt, Ticks::zero(), many_spans(&rt).as_slice());
+    let bridged = made_of(&rt, &ranges, Made::Bridged(5));
+    let apart = ranges.len() == 3000 && are_at_multiples(&rt, &ranges, 3000, 10, 5);
+    assert!(rt; apart && are(&bridged, &[(0, 29_995)]));
+}
+
+#[test]
+fn fills_and_combines_many(rt: HostRuntime) {
+    let ranges = ranges_of(&rt, Ticks::zero(), filling_spans(&rt).as_slice());
+    let copy = ranges.copy().expect(&rt, "memory");
+    let union = ranges.union(&copy).expect(&rt, "memory");
+    let meet = ranges.meet(&copy).expect(&rt, "memory");
+    let lens = [ranges.len(), union.len(), meet.len()];
+    assert!(rt; lens == [2300; 3] && are_at_multiples(&rt, &ranges, 700, 20, 15));
+}
+
+#[test]
+fn carves_many(rt: HostRuntime) {
+    let mut ranges = ranges_of(&rt, Ticks::zero(), many_spans(&rt).as_slice());
+    let len = ranges.len();
+    carve(&rt, &mut ranges, (3, 29_991));
+    assert!(rt; len == 3000 && are(&ranges, &[(0, 3), (29_991, 29_995)]));
 }
 
 /// Parts of bytes stay as they are, whatever becomes of the bytes.
 #[test]
-fn parts_of_bytes_stay(rt: HostRuntime) -> Result<(), Fail> {
-    let mut bytes = Bytes::copy_of(rt.alloc(), b"abcdef")?;
-    let part = bytes.part(1, 4)?;
+fn parts_of_bytes_stay(rt: HostRuntime) {
+    let mut bytes = Bytes::copy_of(rt.alloc(), b"abcdef").expect(&rt, "memory");
+    let part = bytes.part(1, 4).expect(&rt, "memory");
     bytes.drop_front(2);
     bytes.truncate(2);
-    bytes.extend(b"gh")?;
-    assert!(rt; part.as_slice() == b"bcd".as_slice());
-    assert!(rt; part.into_vec()?.len() == 3);
-    bytes.extend(b"i")?;
-    assert!(rt; bytes.as_slice() == b"cdghi".as_slice());
-    Ok(())
+    bytes.extend(b"gh").expect(&rt, "memory");
+    let stays = part.as_slice() == b"bcd".as_slice();
+    let len = part.into_vec().expect(&rt, "memory").len();
+    bytes.extend(b"i").expect(&rt, "memory");
+    assert!(rt; stays && len == 3 && bytes.as_slice() == b"cdghi".as_slice());
 }
 
 #[test]
-fn copies_bytes(rt: HostRuntime) -> Result<(), Fail> {
-    let bytes = Bytes::copy_of(rt.alloc(), &[1, 2, 3])?;
-    assert!(rt; bytes.copy()?.as_slice() == [1, 2, 3].as_slice());
-    assert!(rt; bytes.into_vec()?.len() == 3);
-    Ok(())
+fn copies_bytes(rt: HostRuntime) {
+    let bytes = Bytes::copy_of(rt.alloc(), &[1, 2, 3]).expect(&rt, "memory");
+    let copy = bytes.copy().expect(&rt, "memory");
+    let len = bytes.into_vec().expect(&rt, "memory").len();
+    assert!(rt; copy.as_slice() == [1, 2, 3].as_slice() && len == 3);
 }
 
 #[test]
-fn copies_texts(rt: HostRuntime) -> Result<(), Fail> {
-    let text = Text::copy_of(rt.alloc(), "moof")?;
-    assert!(rt; text.copy()?.as_str() == "moof");
-    assert!(rt; text.into_string().len() == 4);
-    Ok(())
+fn copies_texts(rt: HostRuntime) {
+    let text = Text::copy_of(rt.alloc(), "moof").expect(&rt, "memory");
+    let copy = text.copy().expect(&rt, "memory");
+    let len = text.into_string().len();
+    assert!(rt; copy.as_str() == "moof" && len == 4);
 }
 
 /// A presentation of one track.
@@ -469,8 +394,14 @@ fn presentation_of(
     })
 }
 
+/// Whether there is one track of those that are told.
+fn has_track(tracks: &TrackList, track: TrackInfo) -> bool {
+    let found = (tracks.find(1).is_some(), tracks.find(2).is_some());
+    found == (true, false) && tracks.as_slice() == [track].as_slice()
+}
+
 #[test]
-fn copies_presentations(rt: HostRuntime) -> Result<(), Fail> {
+fn copies_presentations(rt: HostRuntime) {
     let track = TrackInfo {
         id: 1,
         kind: Kind::Video,
@@ -482,11 +413,10 @@ fn copies_presentations(rt: HostRuntime) -> Result<(), Fail> {
         default_size: 0,
         default_flags: 0,
     };
-    let duration = Moment::At(Ticks::new(5).ok_or("no time")?);
-    let presentation = presentation_of(rt.alloc(), 1_000, duration, track)?;
-    let copy = presentation.copy()?;
-    assert!(rt; copy.tracks.find(1).is_some() && copy.tracks.find(2).is_none());
-    assert!(rt; copy.scale == 1_000 && copy.duration == duration);
-    assert!(rt; copy.tracks.copy()?.as_slice() == [track].as_slice());
-    Ok(())
+    let duration = Moment::At(ticks(&rt, 5));
+    let presentation = presentation_of(rt.alloc(), 1_000, duration, track).expect(&rt, "memory");
+    let copy = presentation.copy().expect(&rt, "memory");
+    let tracks = copy.tracks.copy().expect(&rt, "memory");
+    let numbers = copy.scale == 1_000 && copy.duration == duration;
+    assert!(rt; numbers && has_track(&copy.tracks, track) && has_track(&tracks, track));
 }
