@@ -83,77 +83,57 @@ fn drain(scene: &mut AllBuffersScene, k: u32) -> Result<usize, OutOfMemory> {
 }
 
 /// Where the end of so many frames is.
-fn after(frames: u8) -> Result<Ticks, Fail> {
-    Ok(Ticks::new(i128::from(frames) * LASTS).ok_or("no time")?)
-}
-
-/// A span from 0 on over so many frames.
-fn over(frames: u8) -> Result<Span, Fail> {
-    Ok(Span {
-        start: Ticks::zero(),
-        end: after(frames)?,
-    })
+fn after(frames: u8) -> Ticks {
+    Ticks::new(i128::from(frames) * LASTS).unwrap_or(Ticks::zero())
 }
 
 /// The span from 0 on over so many frames, or none for no frame.
-fn over_any(frames: u8) -> Result<Option<Span>, Fail> {
+fn over(frames: u8) -> Option<Span> {
     if frames == 0 {
-        return Ok(None);
+        return None;
     }
-    Ok(Some(over(frames)?))
+    Some(Span {
+        start: Ticks::zero(),
+        end: after(frames),
+    })
 }
 
-/// Compares ranges: one from 0 on over so many frames, or none for no frame.
-fn expect_ranges(rt: &impl Abort, ranges: &Ranges, frames: u8) -> Result<(), Fail> {
+/// Whether ranges are one from 0 on over so many frames, or none for no frame.
+fn is_over(ranges: &Ranges, frames: u8) -> bool {
     let count = if frames == 0 { 0 } else { 1 };
-    assert_eq!(rt; (ranges.len(), ranges.last()), (count, over_any(frames)?));
-    Ok(())
+    (ranges.len(), ranges.last()) == (count, over(frames))
 }
 
-/// Compares what a buffer has: one range from 0 on over so many frames.
-fn expect_buffered(
-    rt: &impl Abort,
-    scene: &AllBuffersScene,
-    k: u32,
-    frames: u8,
-) -> Result<(), Fail> {
+/// Whether a buffer has one range from 0 on over so many frames.
+fn has_buffered(scene: &AllBuffersScene, k: u32, frames: u8) -> Result<bool, OutOfMemory> {
     match scene.buffers.buffered(k, false)? {
-        Some(ranges) => expect_ranges(rt, &ranges, frames),
-        None => Err(Fail::new("the buffer is there")),
+        Some(ranges) => Ok(is_over(&ranges, frames)),
+        None => Ok(false),
     }
 }
 
-/// Begins an append, which is not refused, and compares which buffer runs.
-fn expect_begun(
-    rt: &impl Abort,
+/// Begins an append, and tells whether it is not refused, and then which buffer runs.
+fn begun(
     scene: &mut AllBuffersScene,
     alloc: Global,
     k: u32,
     count: usize,
-) -> Result<(), Fail> {
-    assert_eq!(rt; begin(scene, alloc, k, count)?.refused, None);
-    assert_eq!(rt; scene.buffers.running(), Some(k));
-    Ok(())
+) -> Result<(bool, Option<u32>), OutOfMemory> {
+    let reply = begin(scene, alloc, k, count)?;
+    Ok((reply.refused.is_none(), scene.buffers.running()))
 }
 
-/// Compares what is told of all buffers: whether one is updating, and by how many frames the last one begins and ends.
-fn expect_all(
-    rt: &impl Abort,
-    scene: &AllBuffersScene,
-    updating: bool,
-    highest: Option<(u8, u8)>,
-) -> Result<(), Fail> {
+/// What is told of all buffers: whether one is updating, and by how many frames the last one begins and ends.
+fn all_buffers(updating: bool, highest: Option<(u8, u8)>) -> AllBuffers {
     let (highest_start, highest_end) = match highest {
-        Some((start, end)) => (Some(after(start)?), Some(after(end)?)),
+        Some((start, end)) => (Some(after(start)), Some(after(end))),
         None => (None, None),
     };
-    let wanted = AllBuffers {
+    AllBuffers {
         updating,
         highest_start,
         highest_end,
-    };
-    assert_eq!(rt; scene.buffers.all_buffers(), wanted);
-    Ok(())
+    }
 }
 
 /// Two buffers, with no frame.
@@ -167,7 +147,7 @@ fn two_empty_buffers(alloc: Global) -> Result<AllBuffersScene, OutOfMemory> {
 /// Two buffers, of three frames and of five.
 fn two_buffers(alloc: Global) -> Result<AllBuffersScene, OutOfMemory> {
     let mut scene = two_empty_buffers(alloc)?;
-    for (k, count) in [(0, 3), (1, 5)] {
+    for &(k, count) in &[(0, 3), (1, 5)] {
         begin(&mut scene, alloc, k, count)?;
         drain(&mut scene, k)?;
     }
@@ -186,22 +166,19 @@ const DRAINS: [(u32, usize, bool, (bool, bool)); 4] = [
 #[test]
 fn work_of_two_buffers(rt: HostRuntime) -> Result<(), Fail> {
     let mut scene = two_empty_buffers(rt.alloc())?;
-    assert_eq!(rt; (scene.buffers.len(), scene.buffers.running()), (2, None));
-    for (k, count) in [(1, 5), (0, 3)] {
-        expect_begun(&rt, &mut scene, rt.alloc(), k, count)?;
+    assert!(rt; (scene.buffers.len(), scene.buffers.running()) == (2, None));
+    for &(k, count) in &[(1, 5), (0, 3)] {
+        assert!(rt; begun(&mut scene, rt.alloc(), k, count)? == (true, Some(k)));
     }
-    expect_all(&rt, &scene, true, None)?;
-    for (k, steps, initialized, updating) in DRAINS {
-        assert_eq!(rt; drain(&mut scene, k)?, steps);
+    assert!(rt; scene.buffers.all_buffers() == all_buffers(true, None));
+    for &(k, steps, initialized, updating) in &DRAINS {
+        assert!(rt; drain(&mut scene, k)? == steps, "buffer {k}");
         let buffers = &scene.buffers;
-        assert_eq!(rt; buffers.are_initialized(), initialized);
-        assert_eq!(rt;
-            (buffers.is_updating_at(0), buffers.is_updating_at(1)),
-            updating
-        );
+        assert!(rt; buffers.are_initialized() == initialized);
+        assert!(rt; (buffers.is_updating_at(0), buffers.is_updating_at(1)) == updating);
     }
-    expect_all(&rt, &scene, false, Some((4, 5)))?;
-    assert_eq!(rt; scene.duration, Moment::Infinite);
+    assert!(rt; scene.buffers.all_buffers() == all_buffers(false, Some((4, 5))));
+    assert!(rt; scene.duration == Moment::Infinite);
     Ok(())
 }
 
@@ -226,16 +203,17 @@ const ELEMENT_SPANS: [(&[u32], u8, bool, u8); 4] = [
 fn ranges_of_the_element(rt: HostRuntime) -> Result<(), Fail> {
     let scene = two_buffers(rt.alloc())?;
     let buffers = &scene.buffers;
-    for (active, ended, frames) in ELEMENT_RANGES {
-        expect_ranges(&rt, &buffers.element_ranges(active, ended)?, frames)?;
-    }
-    for (active, at, ended, frames) in ELEMENT_SPANS {
-        assert_eq!(rt;
-            buffers.element_span(active, after(at)?, ended),
-            over_any(frames)?
+    for &(active, ended, frames) in &ELEMENT_RANGES {
+        assert!(rt;
+            is_over(&buffers.element_ranges(active, ended)?, frames),
+            "{active:?}"
         );
     }
-    expect_buffered(&rt, &scene, 0, 3)?;
+    for &(active, at, ended, frames) in &ELEMENT_SPANS {
+        let found = buffers.element_span(active, after(at), ended);
+        assert!(rt; found == over(frames), "{active:?} at {at}");
+    }
+    assert!(rt; has_buffered(&scene, 0, 3)?);
     assert!(rt; buffers.buffered(2, false)?.is_none());
     Ok(())
 }
@@ -299,11 +277,11 @@ fn call(
     k: u32,
     act: BuffersCall,
     told: &BufferContext,
-) -> Result<Reply, Fail> {
+) -> Result<Reply, OutOfMemory> {
     let frame = Bytes::copy_of(alloc, &FRAME)?;
-    let time = after(frames_before(act))?;
+    let time = after(frames_before(act));
     match buffer_call(act, time, &frame) {
-        Some(call) => Ok(buffers.call(k, &call, told)?),
+        Some(call) => buffers.call(k, &call, told),
         None => Ok(buffers.remove(k, told)),
     }
 }
@@ -315,25 +293,12 @@ fn refusal(
     k: u32,
     act: BuffersCall,
     told: &BufferContext,
-) -> Result<Option<Name>, Fail> {
+) -> Result<Option<Name>, OutOfMemory> {
     let frame = Bytes::copy_of(alloc, &FRAME)?;
-    let time = after(frames_before(act))?;
+    let time = after(frames_before(act));
     match buffer_call(act, time, &frame) {
         Some(call) => Ok(buffers.refusal_of(k, &call, told)),
         None => Ok(buffers.removal_refusal(k)),
-    }
-}
-
-/// How often an abort of the buffer of a number changes the duration at most.
-fn changes_of_an_abort(
-    buffers: &SourceBuffers<ListStore>,
-    alloc: Global,
-    k: u32,
-) -> Result<usize, Fail> {
-    let frame = Bytes::copy_of(alloc, &FRAME)?;
-    match buffer_call(BuffersCall::Abort, Ticks::zero(), &frame) {
-        Some(call) => Ok(buffers.most_changes(k, &call)),
-        None => Err(Fail::new("an abort is a call")),
     }
 }
 
@@ -350,7 +315,7 @@ fn run(
 ) -> Result<(), Fail> {
     for (k, act, wanted) in rows {
         let reply = call(buffers, alloc, *k, *act, told)?;
-        assert_eq!(rt; reply.refused, *wanted);
+        assert!(rt; reply.refused == *wanted, "{wanted:?}");
     }
     Ok(())
 }
@@ -383,18 +348,30 @@ fn one_buffer_left(rt: &impl Abort, alloc: Global) -> Result<AllBuffersScene, Fa
     begin(&mut scene, alloc, 1, 1)?;
     let told = around(&scene, 1);
     let reply = scene.buffers.remove(1, &told);
-    assert_eq!(rt; (reply.refused, reply.events.len()), (None, 2));
+    assert!(rt; (reply.refused, reply.events.len()) == (None, 2));
     Ok(scene)
 }
 
-/// Compares the tracks: the buffer of number 0 has one, of three frames.
-fn expect_one_track(rt: &impl Abort, buffers: &SourceBuffers<ListStore>) -> Result<(), Fail> {
-    assert!(rt; buffers.track(1, 0).is_none() && buffers.track(0, 1).is_none());
-    match buffers.track(0, 0) {
-        Some(track) => assert_eq!(rt; track.store.len(), 3),
-        None => return Err(Fail::new("the track is there")),
+/// Whether the buffer of number 0 alone has a track, which is one, of three frames.
+fn has_one_track(buffers: &SourceBuffers<ListStore>) -> bool {
+    let is_there = match buffers.track(0, 0) {
+        Some(track) => track.store.len() == 3,
+        None => false,
+    };
+    is_there && buffers.track(1, 0).is_none() && buffers.track(0, 1).is_none()
+}
+
+/// How often an abort of the buffer of a number changes the duration at most.
+fn changes_of_an_abort(
+    buffers: &SourceBuffers<ListStore>,
+    alloc: Global,
+    k: u32,
+) -> Result<usize, Fail> {
+    let frame = Bytes::copy_of(alloc, &FRAME)?;
+    match buffer_call(BuffersCall::Abort, Ticks::zero(), &frame) {
+        Some(call) => Ok(buffers.most_changes(k, &call)),
+        None => Err(Fail::new("an abort is a call")),
     }
-    Ok(())
 }
 
 #[test]
@@ -410,17 +387,13 @@ fn a_removed_buffer(rt: HostRuntime) -> Result<(), Fail> {
         &CALLS_BEHIND_A_REMOVAL,
     )?;
     let buffers = &scene.buffers;
-    assert_eq!(rt;
-        (buffers.is_made(1), buffers.is_made(2), buffers.len()),
-        (true, false, 2)
-    );
-    assert_eq!(rt;
-        (buffers.running(), changes_of_an_abort(buffers, alloc, 1)?),
-        (None, 0)
-    );
-    assert_eq!(rt; buffers.all_buffers().highest_end, Some(after(3)?));
-    assert_eq!(rt; buffers.views(false)?.len(), 1);
-    expect_one_track(&rt, buffers)
+    assert!(rt; (buffers.is_made(1), buffers.is_made(2), buffers.len()) == (true, false, 2));
+    assert!(rt; buffers.running().is_none());
+    assert!(rt; changes_of_an_abort(buffers, alloc, 1)? == 0);
+    assert!(rt; buffers.all_buffers().highest_end == Some(after(3)));
+    assert!(rt; buffers.views(false)?.len() == 1);
+    assert!(rt; has_one_track(buffers));
+    Ok(())
 }
 
 const CALLS_ON_A_BUFFER: [Row; 9] = [
@@ -441,8 +414,9 @@ fn calls_on_buffers_that_are_there(rt: HostRuntime) -> Result<(), Fail> {
     let mut scene = two_buffers(alloc)?;
     let told = around(&scene, 0);
     run(&rt, &mut scene.buffers, alloc, &told, &CALLS_ON_A_BUFFER)?;
-    assert_eq!(rt; drain(&mut scene, 0)?, 1);
-    expect_buffered(&rt, &scene, 0, 1)
+    assert!(rt; drain(&mut scene, 0)? == 1);
+    assert!(rt; has_buffered(&scene, 0, 1)?);
+    Ok(())
 }
 
 /// Calls that a buffer that is there does not refuse.
@@ -455,6 +429,13 @@ const ALLOWED: [BuffersCall; 8] = [
     BuffersCall::Append,
     BuffersCall::Abort,
     BuffersCall::Type("audio/aac"),
+];
+
+/// A buffer that is there, one that was removed and one that was never made, and how each refuses such calls.
+const NUMBERS: [(u32, Option<Name>); 3] = [
+    (0, None),
+    (1, Some(Name::InvalidState)),
+    (2, Some(Name::NoSuchBuffer)),
 ];
 
 /// Other calls where the buffer of number 1 was removed.
@@ -474,18 +455,19 @@ fn refusals_before_a_call(rt: HostRuntime) -> Result<(), Fail> {
     let mut scene = two_buffers(alloc)?;
     let told = around(&scene, 1);
     scene.buffers.remove(1, &told);
-    // there, removed, never made
-    for (k, wanted) in [
-        (0, None),
-        (1, Some(Name::InvalidState)),
-        (2, Some(Name::NoSuchBuffer)),
-    ] {
-        for act in ALLOWED {
-            assert_eq!(rt; refusal(&scene.buffers, alloc, k, act, &told)?, wanted);
+    for &(k, wanted) in &NUMBERS {
+        for &act in &ALLOWED {
+            assert!(rt;
+                refusal(&scene.buffers, alloc, k, act, &told)? == wanted,
+                "buffer {k}"
+            );
         }
     }
-    for (k, act, wanted) in OTHERS {
-        assert_eq!(rt; refusal(&scene.buffers, alloc, k, act, &told)?, wanted);
+    for &(k, act, wanted) in &OTHERS {
+        assert!(rt;
+            refusal(&scene.buffers, alloc, k, act, &told)? == wanted,
+            "buffer {k}"
+        );
     }
     Ok(())
 }
@@ -505,18 +487,18 @@ const ALL: [u32; 16] = [0, 1, 2, 3, 4, 5, 6, 7, 8, 9, 10, 11, 12, 13, 14, 15];
 #[test]
 fn sixteen_buffers(rt: HostRuntime) -> Result<(), Fail> {
     let mut scene = sixteen_appends(rt.alloc())?;
-    for k in ALL {
-        assert_eq!(rt; scene.buffers.running(), Some(k));
-        assert_eq!(rt; drain(&mut scene, k)?, 2 * (k as usize + 1) + 2);
+    for &k in &ALL {
+        assert!(rt; scene.buffers.running() == Some(k));
+        assert!(rt; drain(&mut scene, k)? == 2 * (k as usize + 1) + 2);
     }
-    assert_eq!(rt; scene.buffers.running(), None);
-    for (ended, frames) in [(false, 1), (true, 16)] {
-        expect_ranges(&rt, &scene.buffers.element_ranges(&ALL, ended)?, frames)?;
+    assert!(rt; scene.buffers.running().is_none());
+    for &(ended, frames) in &[(false, 1), (true, 16)] {
+        assert!(rt; is_over(&scene.buffers.element_ranges(&ALL, ended)?, frames));
     }
     let views = scene.buffers.views(true)?;
-    assert_eq!(rt; views.len(), 16);
+    assert!(rt; views.len() == 16);
     for (k, view) in views.iter().enumerate() {
-        assert_eq!(rt; view.number as usize, k);
+        assert!(rt; view.number as usize == k);
     }
     Ok(())
 }

@@ -5,8 +5,9 @@ use std::alloc::Global;
 use std::process::Abort;
 use std::test::Fail;
 
-fn time(t: i128) -> Result<Ticks, Fail> {
-    Ok(Ticks::new(t).ok_or("no time")?)
+/// So many ticks; 0 for a number that is no time, of which there is none below.
+fn time(t: i128) -> Ticks {
+    Ticks::new(t).unwrap_or(Ticks::zero())
 }
 
 /// A duration, in ticks.
@@ -17,11 +18,11 @@ enum Duration {
     At(i128),
 }
 
-fn moment(duration: Duration) -> Result<Moment, Fail> {
+fn moment(duration: Duration) -> Moment {
     match duration {
-        Duration::Nan => Ok(Moment::Nan),
-        Duration::Infinite => Ok(Moment::Infinite),
-        Duration::At(t) => Ok(Moment::At(time(t)?)),
+        Duration::Nan => Moment::Nan,
+        Duration::Infinite => Moment::Infinite,
+        Duration::At(t) => Moment::At(time(t)),
     }
 }
 
@@ -33,11 +34,11 @@ enum Comes {
     Refused(Name),
 }
 
-fn change_of(comes: Comes) -> Result<Changed, Fail> {
+fn change_of(comes: Comes) -> Changed {
     match comes {
-        Comes::Same => Ok(Changed::Same),
-        Comes::To(duration) => Ok(Changed::To(moment(duration)?)),
-        Comes::Refused(name) => Ok(Changed::Refused(name)),
+        Comes::Same => Changed::Same,
+        Comes::To(duration) => Changed::To(moment(duration)),
+        Comes::Refused(name) => Changed::Refused(name),
     }
 }
 
@@ -56,36 +57,33 @@ enum SourceCall {
     Reopen(bool),
 }
 
-fn highest(end: Option<i128>) -> Result<Option<Ticks>, Fail> {
-    match end {
-        Some(t) => Ok(Some(time(t)?)),
-        None => Ok(None),
-    }
+/// Ends the stream, and tells whether what comes of it is what the row says.
+fn is_end(source: &mut Source, kind: EndKind, end: Option<i128>, comes: Comes) -> bool {
+    let highest = match end {
+        Some(t) => Some(time(t)),
+        None => None,
+    };
+    source.end(kind, highest) == change_of(comes)
 }
 
-fn expect_end(
-    rt: &impl Abort,
-    source: &mut Source,
-    kind: EndKind,
-    end: Option<i128>,
-    comes: Comes,
-) -> Result<(), Fail> {
-    assert_eq!(rt; source.end(kind, highest(end)?), change_of(comes)?);
-    Ok(())
-}
-
-fn expect(rt: &impl Abort, source: &mut Source, act: SourceCall) -> Result<(), Fail> {
+/// Makes the call, and tells whether the answer is the one of the row.
+fn is_answered(source: &mut Source, act: SourceCall) -> bool {
     match act {
-        SourceCall::Ready(wanted) => assert_eq!(rt; source.ready(), wanted),
-        SourceCall::Duration(wanted) => assert_eq!(rt; source.duration(), moment(wanted)?),
-        SourceCall::Attach(wanted) => assert_eq!(rt; source.attach(), wanted),
-        SourceCall::EndRefusal(updating, wanted) => {
-            assert_eq!(rt; source.end_refusal(updating), wanted);
-        }
-        SourceCall::End(kind, end, comes) => expect_end(rt, source, kind, end, comes)?,
-        SourceCall::Reopen(wanted) => assert_eq!(rt; source.reopen(), wanted),
+        SourceCall::Ready(wanted) => source.ready() == wanted,
+        SourceCall::Duration(wanted) => source.duration() == moment(wanted),
+        SourceCall::Attach(wanted) => source.attach() == wanted,
+        SourceCall::EndRefusal(updating, wanted) => source.end_refusal(updating) == wanted,
+        SourceCall::End(kind, end, comes) => is_end(source, kind, end, comes),
+        SourceCall::Reopen(wanted) => source.reopen() == wanted,
     }
-    Ok(())
+}
+
+/// Makes the calls on a new source, and compares the answers.
+fn play(rt: &(impl Abort + AllocGlobal), acts: &[SourceCall]) {
+    let mut source = Source::new(rt.alloc());
+    for (i, act) in acts.iter().enumerate() {
+        assert!(rt; is_answered(&mut source, *act), "call {i}");
+    }
 }
 
 /// A closed source, an open one and an ended one.
@@ -116,32 +114,24 @@ const HIGHEST_ENDS: [SourceCall; 5] = [
 ];
 
 #[test]
-fn opens_ends_and_opens_again(rt: HostRuntime) -> Result<(), Fail> {
-    let mut source = Source::new(rt.alloc());
-    for act in ENDS {
-        expect(&rt, &mut source, act)?;
-    }
-    Ok(())
+fn opens_ends_and_opens_again(rt: HostRuntime) {
+    play(&rt, &ENDS);
 }
 
 #[test]
-fn ends_at_the_highest_end(rt: HostRuntime) -> Result<(), Fail> {
-    let mut source = Source::new(rt.alloc());
-    for act in HIGHEST_ENDS {
-        expect(&rt, &mut source, act)?;
-    }
-    Ok(())
+fn ends_at_the_highest_end(rt: HostRuntime) {
+    play(&rt, &HIGHEST_ENDS);
 }
 
 /// A source with sixteen buffers, to which no other is added.
 fn full(rt: &impl Abort, alloc: Global) -> Result<Source, Fail> {
     let mut source = Source::new(alloc);
-    assert_eq!(rt; source.add_buffer()?, Added::Refused(Name::InvalidState));
+    assert!(rt; source.add_buffer()? == Added::Refused(Name::InvalidState));
     source.attach();
     for k in 0..16 {
-        assert_eq!(rt; source.add_buffer()?, Added::Number(k));
+        assert!(rt; source.add_buffer()? == Added::Number(k));
     }
-    assert_eq!(rt; source.add_buffer()?, Added::Refused(Name::QuotaExceeded));
+    assert!(rt; source.add_buffer()? == Added::Refused(Name::QuotaExceeded));
     Ok(source)
 }
 
@@ -166,37 +156,34 @@ const REMOVALS: [(u32, Removed); 3] = [
 #[test]
 fn adds_and_removes_buffers(rt: HostRuntime) -> Result<(), Fail> {
     let mut source = full(&rt, rt.alloc())?;
-    expect_end(&rt, &mut source, EndKind::Network, None, Comes::Same)?;
-    assert_eq!(rt; source.add_buffer()?, Added::Refused(Name::QuotaExceeded));
+    assert!(rt; is_end(&mut source, EndKind::Network, None, Comes::Same));
+    assert!(rt; source.add_buffer()? == Added::Refused(Name::QuotaExceeded));
     activate(&rt, &mut source, 3)?;
-    for (k, wanted) in REMOVALS {
-        assert_eq!(rt; source.remove_buffer(k), wanted);
+    for &(k, wanted) in &REMOVALS {
+        assert!(rt; source.remove_buffer(k) == wanted, "buffer {k}");
     }
     assert!(rt; !source.listed(3) && !source.active(3));
-    assert_eq!(rt;
-        (source.len(), source.at(2), source.at(14)),
-        (14, Some(4), None)
-    );
-    assert_eq!(rt; source.add_buffer()?, Added::Refused(Name::InvalidState));
+    assert!(rt; (source.len(), source.at(2), source.at(14)) == (14, Some(4), None));
+    assert!(rt; source.add_buffer()? == Added::Refused(Name::InvalidState));
     assert!(rt; source.reopen());
-    assert_eq!(rt; source.add_buffer()?, Added::Number(16));
-    assert_eq!(rt; (source.made(), source.at(14)), (17, Some(16)));
+    assert!(rt; source.add_buffer()? == Added::Number(16));
+    assert!(rt; (source.made(), source.at(14)) == (17, Some(16)));
     Ok(())
 }
 
 /// What is told of all buffers where none is updating: by which times frames start and end, if there are any.
-fn idle(frames: Option<(i128, i128)>) -> Result<AllBuffers, Fail> {
+fn idle(frames: Option<(i128, i128)>) -> AllBuffers {
     match frames {
-        Some((start, end)) => Ok(AllBuffers {
+        Some((start, end)) => AllBuffers {
             updating: false,
-            highest_start: Some(time(start)?),
-            highest_end: Some(time(end)?),
-        }),
-        None => Ok(AllBuffers {
+            highest_start: Some(time(start)),
+            highest_end: Some(time(end)),
+        },
+        None => AllBuffers {
             updating: false,
             highest_start: None,
             highest_end: None,
-        }),
+        },
     }
 }
 
@@ -241,62 +228,63 @@ const OF_AN_OPEN_SOURCE: [(Option<(i128, i128)>, Duration, Comes); 6] = [
     (Some((30, 35)), Duration::At(20), Comes::Same),
 ];
 
-fn expect_set(
-    rt: &impl Abort,
-    source: &mut Source,
-    duration: Duration,
-    all: &AllBuffers,
-    comes: Comes,
-) -> Result<(), Fail> {
-    assert_eq!(rt;
-        source.set_duration(moment(duration)?, all),
-        change_of(comes)?
-    );
-    Ok(())
+/// Sets the duration, and tells whether what comes of it is what the row says.
+fn is_set(source: &mut Source, duration: Duration, all: &AllBuffers, comes: Comes) -> bool {
+    source.set_duration(moment(duration), all) == change_of(comes)
 }
 
 /// Each refusal of a duration comes before the next one, and the ends of frames raise it.
 #[test]
-fn sets_the_duration(rt: HostRuntime) -> Result<(), Fail> {
+fn sets_the_duration(rt: HostRuntime) {
     let mut source = Source::new(rt.alloc());
-    for (duration, comes) in OF_A_CLOSED_SOURCE {
-        expect_set(&rt, &mut source, duration, &idle(None)?, comes)?;
+    for (i, row) in OF_A_CLOSED_SOURCE.iter().enumerate() {
+        assert!(rt;
+            is_set(&mut source, row.0, &idle(None), row.1),
+            "closed, {i}"
+        );
     }
     source.attach();
-    for (duration, comes) in WHILE_UPDATING {
-        expect_set(&rt, &mut source, duration, &UPDATING, comes)?;
+    for (i, row) in WHILE_UPDATING.iter().enumerate() {
+        assert!(rt;
+            is_set(&mut source, row.0, &UPDATING, row.1),
+            "updating, {i}"
+        );
     }
-    for (frames, duration, comes) in OF_AN_OPEN_SOURCE {
-        expect_set(&rt, &mut source, duration, &idle(frames)?, comes)?;
+    for (i, row) in OF_AN_OPEN_SOURCE.iter().enumerate() {
+        assert!(rt;
+            is_set(&mut source, row.1, &idle(row.0), row.2),
+            "open, {i}"
+        );
     }
-    let later = Moment::At(time(35)?);
+    let later = Moment::At(time(35));
     assert!(rt; source.change_duration(later) && !source.change_duration(later));
-    assert_eq!(rt; source.duration(), later);
-    Ok(())
+    assert!(rt; source.duration() == later);
 }
 
-fn span(ends: Option<(i128, i128)>) -> Result<Option<Span>, Fail> {
+fn span(ends: Option<(i128, i128)>) -> Option<Span> {
     match ends {
-        Some((start, end)) => Ok(Some(Span {
-            start: time(start)?,
-            end: time(end)?,
-        })),
-        None => Ok(None),
+        Some((start, end)) => Some(Span {
+            start: time(start),
+            end: time(end),
+        }),
+        None => None,
     }
 }
 
 /// From where to where frames are buffered, if any are, and what can then be sought.
 type Row = (Option<(i128, i128)>, Option<(i128, i128)>);
 
-fn expect_seekable(rt: &impl Abort, source: &Source, rows: &[Row]) -> Result<(), Fail> {
-    for (buffered, wanted) in rows {
-        let (first, last) = match span(*buffered)? {
+fn expect_seekable(rt: &impl Abort, source: &Source, rows: &[Row]) {
+    for &(buffered, wanted) in rows {
+        let (first, last) = match span(buffered) {
             Some(span) => (Some(span.start), Some(span.end)),
             None => (None, None),
         };
-        assert_eq!(rt; source.seekable(first, last), span(*wanted)?);
+        assert!(rt;
+            source.seekable(first, last) == span(wanted),
+            "{buffered:?}"
+        );
     }
-    Ok(())
 }
 
 /// Live seekable ranges, and the refusals of an open source.
@@ -307,32 +295,35 @@ const LIVE: [(i128, i128, Option<Name>); 3] = [
 ];
 
 /// An open source with a live seekable range, and no duration.
-fn live_source(rt: &impl Abort, alloc: Global) -> Result<Source, Fail> {
+fn live_source(rt: &impl Abort, alloc: Global) -> Source {
     let mut source = Source::new(alloc);
-    assert_eq!(rt; source.set_live(time(10)?, time(5)?), WRONG_STATE);
-    assert_eq!(rt; source.clear_live(), WRONG_STATE);
+    assert!(rt; source.set_live(time(10), time(5)) == WRONG_STATE);
+    assert!(rt; source.clear_live() == WRONG_STATE);
     source.attach();
-    for (start, end, wanted) in LIVE {
-        assert_eq!(rt; source.set_live(time(start)?, time(end)?), wanted);
+    for &(start, end, wanted) in &LIVE {
+        assert!(rt;
+            source.set_live(time(start), time(end)) == wanted,
+            "from {start}"
+        );
     }
-    Ok(source)
+    source
 }
 
 /// What can be sought by the duration, the live seekable range and what is buffered.
 #[test]
-fn tells_what_can_be_sought(rt: HostRuntime) -> Result<(), Fail> {
-    let mut source = live_source(&rt, rt.alloc())?;
-    expect_seekable(&rt, &source, &[(Some((3, 8)), None)])?;
+fn tells_what_can_be_sought(rt: HostRuntime) {
+    let mut source = live_source(&rt, rt.alloc());
+    expect_seekable(&rt, &source, &[(Some((3, 8)), None)]);
     assert!(rt; source.change_duration(Moment::Infinite));
     let rows = [
         (None, Some((5, 6))),
         (Some((3, 8)), Some((3, 8))),
         (Some((6, 6)), Some((5, 6))),
     ];
-    expect_seekable(&rt, &source, &rows)?;
-    assert_eq!(rt; source.clear_live(), None);
-    assert_eq!(rt; source.live(), None);
-    expect_seekable(&rt, &source, &[(Some((3, 8)), Some((0, 8))), (None, None)])?;
-    assert!(rt; source.change_duration(Moment::At(time(20)?)));
-    expect_seekable(&rt, &source, &[(Some((3, 8)), Some((0, 20)))])
+    expect_seekable(&rt, &source, &rows);
+    assert!(rt; source.clear_live().is_none());
+    assert!(rt; source.live().is_none());
+    expect_seekable(&rt, &source, &[(Some((3, 8)), Some((0, 8))), (None, None)]);
+    assert!(rt; source.change_duration(Moment::At(time(20))));
+    expect_seekable(&rt, &source, &[(Some((3, 8)), Some((0, 20)))]);
 }
