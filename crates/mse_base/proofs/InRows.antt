@@ -219,7 +219,7 @@ dense_merge (r ∷ []) b l d = absurd (omega arith)
 dense_merge (r ∷ s ∷ rows) zero l d = dense_first r s rows d
 dense_merge (r ∷ s ∷ rows) (suc b) l d = dense_merge (s ∷ rows) b (omega arith) d
 
-pub dense_more : (rows : List (List Span)) (b : ℕ) → suc b < length rows → 128 < length (row rows b) + length (row rows (suc b)) → AreDense (drop (suc b) rows) → AreDense (drop b rows)
+pub dense_more : (rows : List (List Span)) (b : ℕ) → suc b < length rows → 512 < length (row rows b) + length (row rows (suc b)) → AreDense (drop (suc b) rows) → AreDense (drop b rows)
 dense_more [] b l k d = absurd (omega arith)
 dense_more (r ∷ []) b l k d = absurd (omega arith)
 dense_more (r ∷ s ∷ rows) zero l k d = (k, d)
@@ -233,11 +233,11 @@ dense_last (r ∷ s ∷ rows) zero l = absurd (omega arith)
 dense_last (r ∷ rows) (suc b) l = dense_last rows b (omega arith)
 
 -- a step from the back: rows b - 2 and b - 1 cannot be one, or are made one
-pub gathered_none : (rows : List (List Span)) (b : ℕ) → 1 < b → b ≤ length rows → 128 < length (row rows (b - 1 - 1)) + length (row rows (b - 1 - 1 + 1)) → AreDense (drop (b - 1) rows) → AreDense (drop (b - 1 - 1) rows)
+pub gathered_none : (rows : List (List Span)) (b : ℕ) → 1 < b → b ≤ length rows → 512 < length (row rows (b - 1 - 1)) + length (row rows (b - 1 - 1 + 1)) → AreDense (drop (b - 1) rows) → AreDense (drop (b - 1 - 1) rows)
 gathered_none rows b p l k d =
     let z : suc (b - 1 - 1) ≡ b - 1 = omega arith in
     let y : b - 1 - 1 + 1 ≡ suc (b - 1 - 1) = omega arith in
-    dense_more rows (b - 1 - 1) (omega arith) (subst (λ n. 128 < length (row rows (b - 1 - 1)) + length (row rows n)) y k) (subst (λ n. AreDense (drop n rows)) (sym z) d)
+    dense_more rows (b - 1 - 1) (omega arith) (subst (λ n. 512 < length (row rows (b - 1 - 1)) + length (row rows n)) y k) (subst (λ n. AreDense (drop n rows)) (sym z) d)
 
 pub record AreRowsMerged (rows new : List (List Span)) (b : ℕ) : Type 0 where
   pub within : b - 1 ≤ length new
@@ -259,11 +259,11 @@ gathered rows new b p l e a d =
     })
 
 -- there are few rows where no two neighbours can be one
-few_from : (r : List Span) (rows : List (List Span)) → AreDense (r ∷ rows) → 129 * length (r ∷ rows) + length r ≤ 2 * length (row_items (r ∷ rows)) + 129
+few_from : (r : List Span) (rows : List (List Span)) → AreDense (r ∷ rows) → 513 * length (r ∷ rows) + length r ≤ 2 * length (row_items (r ∷ rows)) + 513
 few_from r [] d = omega (arith, length-append r (row_items []))
 few_from r (s ∷ rows) d = omega (arith, d.0, length-append r (row_items (s ∷ rows)), few_from s rows d.1)
 
-pub few_rows : (rows : List (List Span)) → AreDense rows → 129 * length rows ≤ 2 * length (row_items rows) + 129
+pub few_rows : (rows : List (List Span)) → AreDense rows → 513 * length rows ≤ 2 * length (row_items rows) + 513
 few_rows [] d = omega arith
 few_rows (r ∷ rows) d = omega (arith, few_from r rows d)
 

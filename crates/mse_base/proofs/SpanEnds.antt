@@ -33,5 +33,5 @@ above_row rows b n t l e h =
     subst (λ k. AllByRecursion (λ r. t ≤ℤ r.end) (drop k (row_items rows))) z h
 
 -- where neighbours were made one and no block was free, one is now
-pub some_free : (old rows : List (List Span)) (total free : ℕ) → AreDense rows → row_items rows ≡ row_items old → free + length rows ≡ total → 2 * length (row_items old) + 130 ≤ 129 * total → 0 < free
+pub some_free : (old rows : List (List Span)) (total free : ℕ) → AreDense rows → row_items rows ≡ row_items old → free + length rows ≡ total → 2 * length (row_items old) + 514 ≤ 513 * total → 0 < free
 some_free old rows total free d e n k = omega (arith, few_rows rows d, ap length e)

@@ -46,11 +46,11 @@ merge_rows (r ∷ s ∷ rows) (suc b) = r ∷ merge_rows (s ∷ rows) b
 abbrev pub AreFilled : List (List Span) → Type 0
 AreFilled rows = AllByRecursion (λ r. 0 < length r) rows
 
--- no two neighbours have few enough spans to be one row of at most 128
+-- no two neighbours have few enough spans to be one row of at most 512
 abbrev pub AreDense : List (List Span) → Type 0
 AreDense [] = Unit {0}
 AreDense (r ∷ []) = Unit {0}
-AreDense (r ∷ s ∷ rows) = (128 < length r + length s) × AreDense (s ∷ rows)
+AreDense (r ∷ s ∷ rows) = (512 < length r + length s) × AreDense (s ∷ rows)
 
 -- what spans in blocks keep: how many there are, and for how many more there is room, and a pool
 -- of empty blocks that is large enough for all of these, however they stand, once no two neighbours
@@ -63,7 +63,7 @@ pub record IsSpread (blocks : Blocks Span) (len spare : ℕ) : Type 0 where
   pub count : len ≡ length (row_items blocks.rows)
   pub fits : len + spare < 2 ^ 64
   pub enough : 0 < len + spare
-      → 2 * (len + spare) + 129 ≤ 129 * (length blocks.rows + length blocks.pool)
+      → 2 * (len + spare) + 513 ≤ 513 * (length blocks.rows + length blocks.pool)
 
 -- number g, from 0 on, is how many items come before row 32 * (g + 1); there may be fewer numbers than such rows
 pub record AreStarts {T : Type 0} (starts : List ℕ) (rows : List (List T)) : Type 0 where

@@ -25,7 +25,7 @@ pub(crate) fn span_at(blocks: &Vec<Block>, place: BlockPlace) -> Span
 fn put_in(blocks: &mut Vec<Block>, b: usize, i: usize, x: Span)
     requires block { b < length blocks.old.items }
     requires within { i ≤ length (row blocks.old.items b) }
-    requires room { length (row blocks.old.items b) < 128 }
+    requires room { length (row blocks.old.items b) < 512 }
     ensures rows { blocks.new.items
         ≡ slice_set blocks.old.items b (insert (row blocks.old.items b) i x) }
     ensures capacity { vec_capacity blocks.new ≡ vec_capacity blocks.old }
@@ -75,10 +75,10 @@ fn split_at(blocks: &mut Vec<Block>, b: usize, s: usize, right: Block)
 /// Where a full block is cut: the last one behind what stands before the place, so that spans
 /// which come in order leave full blocks behind.
 fn cut_place(last: bool, i: usize) -> usize
-    requires { i ≤ 128 }
-    ensures at_least_half { 64 ≤ result }
-    ensures at_most_full { result ≤ 128 }
-    ensures left { i < result → result ≡ 64 }
+    requires { i ≤ 512 }
+    ensures at_least_half { 256 ≤ result }
+    ensures at_most_full { result ≤ 512 }
+    ensures left { i < result → result ≡ 256 }
 {
     if last && i > LONG / 2 { i } else { LONG / 2 }
 }
@@ -87,7 +87,7 @@ fn cut_place(last: bool, i: usize) -> usize
 fn put_apart(blocks: &mut Vec<Block>, b: usize, i: usize, x: Span, right: Block)
     requires block { b < length blocks.old.items }
     requires within { i ≤ length (row blocks.old.items b) }
-    requires full { length (row blocks.old.items b) ≡ 128 }
+    requires full { length (row blocks.old.items b) ≡ 512 }
     requires empty { right ≡ [] }
     requires room { length blocks.old.items < vec_capacity blocks.old }
     requires filled { AreFilled blocks.old.items }
@@ -181,7 +181,7 @@ pub(crate) fn put(
 /// Makes one of block `b` and the one behind it; an empty block.
 fn join_at(blocks: &mut Vec<Block>, b: usize) -> Block
     requires within { b + 1 < length blocks.old.items }
-    requires few { length (row blocks.old.items b) + length (row blocks.old.items (b + 1)) ≤ 128 }
+    requires few { length (row blocks.old.items b) + length (row blocks.old.items (b + 1)) ≤ 512 }
     ensures rows { blocks.new.items ≡ merge_rows blocks.old.items b }
     ensures empty { result ≡ [] }
     ensures capacity { vec_capacity blocks.new ≡ vec_capacity blocks.old }

@@ -20,7 +20,7 @@ pub(crate) struct BlockPlace {
 pub(crate) fn len_at(blocks: &Vec<Block>, b: usize) -> usize
     requires { b < length blocks.now.items }
     ensures value { result ≡ length (row blocks.now.items b) }
-    ensures bound { result ≤ 128 }
+    ensures bound { result ≤ 512 }
 {
     let block = &blocks[b];
     block.len()

@@ -1,4 +1,4 @@
-//! A block: some spans, with room for 128.
+//! A block: some spans, with room for 512.
 
 ghost use Rattle.std.specs.Prelude.{◌≡◌, ◌+◌, ◌<◌, ◌≤◌, [], ◌∷◌, ◌++◌, length, take, drop, IfOk, slice_index_or, slice_set};
 ghost use Rattle.std.specs.List.{insert, remove};
@@ -8,9 +8,9 @@ use std::alloc::Global;
 use std::marker::Model;
 
 /// For how many spans a block has room.
-pub(crate) const LONG: usize = 128;
+pub(crate) const LONG: usize = 512;
 
-/// At most 128 spans, with room for 128.
+/// At most 512 spans, with room for 512.
 #[derive(Debug, Drop)]
 pub(crate) struct Block {
     items: Vec<Span>,
@@ -24,11 +24,11 @@ impl Model for Block {
 
     ghost view = { λ b. b.items.items };
 
-    ghost invariant = { λ b. vec_capacity b.items ≡ 128 };
+    ghost invariant = { λ b. vec_capacity b.items ≡ 512 };
 }
 
 impl Block {
-    /// No spans, with room for 128.
+    /// No spans, with room for 512.
     pub fn new(alloc: Global) -> Result<Block, OutOfMemory>
         ensures { IfOk result (λ b. b ≡ []) }
     {
@@ -39,7 +39,7 @@ impl Block {
     /// How many spans there are.
     pub fn len(&self) -> usize
         ensures value { result ≡ length self.now }
-        ensures bound { length self.now ≤ 128 }
+        ensures bound { length self.now ≤ 512 }
     {
         self.items.len()
     }
@@ -61,7 +61,7 @@ impl Block {
 
     /// Puts a span behind all.
     pub fn push(&mut self, x: Span)
-        requires { length self.old < 128 }
+        requires { length self.old < 512 }
         ensures { self.new ≡ self.old ++ x ∷ [] }
     {
         self.items.push_reserved(x);
@@ -70,7 +70,7 @@ impl Block {
     /// Puts in a span.
     pub fn insert(&mut self, i: usize, x: Span)
         requires within { i ≤ length self.old }
-        requires room { length self.old < 128 }
+        requires room { length self.old < 512 }
         ensures { self.new ≡ insert self.old i x }
     {
         if i == self.items.len() {
@@ -127,7 +127,7 @@ impl Block {
 
     /// Moves all spans of another block behind those of this one.
     pub fn append(&mut self, other: &mut Block)
-        requires { length self.old + length other.old ≤ 128 }
+        requires { length self.old + length other.old ≤ 512 }
         ensures spans { self.new ≡ self.old ++ other.old }
         ensures empty { other.new ≡ [] }
     {

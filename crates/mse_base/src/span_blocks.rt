@@ -14,9 +14,9 @@ use std::alloc::Global;
 use std::marker::Model;
 
 /// Half as many spans as a block has room for.
-const HALF: usize = 64;
+const HALF: usize = 256;
 
-/// Spans in blocks of at most 128, none of which is empty, with a pool of empty blocks. A span that
+/// Spans in blocks of at most 512, none of which is empty, with a pool of empty blocks. A span that
 /// is put in or taken out moves those of its block alone. The span of a number is found by how many
 /// come before each group of blocks.
 #[derive(Debug, Drop)]
@@ -51,8 +51,8 @@ fn refill(blocks: &mut Vec<Block>, pool: &mut Vec<Block>, starts: &mut Vec<usize
     requires room { length pool.old.items + length blocks.old.items ≤ vec_capacity pool.old }
     requires filled { AreFilled blocks.old.items }
     requires empty { AreEmpty pool.old.items }
-    requires enough { 2 * length (row_items blocks.old.items) + 130
-        ≤ 129 * (length blocks.old.items + length pool.old.items) }
+    requires enough { 2 * length (row_items blocks.old.items) + 514
+        ≤ 513 * (length blocks.old.items + length pool.old.items) }
     requires small { length (row_items blocks.old.items) + 1 < 2 ^ 64 }
     requires starts { AreStarts starts.old.items blocks.old.items }
     ensures some { 0 < length pool.new.items }
@@ -76,8 +76,8 @@ fn take_fresh(blocks: &mut Vec<Block>, pool: &mut Vec<Block>, starts: &mut Vec<u
     requires room { length pool.old.items + length blocks.old.items ≤ vec_capacity pool.old }
     requires filled { AreFilled blocks.old.items }
     requires empty { AreEmpty pool.old.items }
-    requires enough { 2 * length (row_items blocks.old.items) + 130
-        ≤ 129 * (length blocks.old.items + length pool.old.items) }
+    requires enough { 2 * length (row_items blocks.old.items) + 514
+        ≤ 513 * (length blocks.old.items + length pool.old.items) }
     requires small { length (row_items blocks.old.items) + 1 < 2 ^ 64 }
     requires starts { AreStarts starts.old.items blocks.old.items }
     ensures fresh { result ≡ [] }
@@ -108,8 +108,8 @@ fn put_in_place(
         ≤ vec_capacity blocks.old }
     requires filled { AreFilled blocks.old.items }
     requires empty { AreEmpty pool.old.items }
-    requires enough { 2 * length (row_items blocks.old.items) + 130
-        ≤ 129 * (length blocks.old.items + length pool.old.items) }
+    requires enough { 2 * length (row_items blocks.old.items) + 514
+        ≤ 513 * (length blocks.old.items + length pool.old.items) }
     requires small { length (row_items blocks.old.items) + 1 < 2 ^ 64 }
     requires starts { AreStarts starts.old.items blocks.old.items }
     ensures spans { row_items blocks.new.items ≡ insert (row_items blocks.old.items) i x }

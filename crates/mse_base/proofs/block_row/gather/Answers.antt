@@ -37,7 +37,7 @@ pub gathering-preserved : goal.gathering-preserved
 gathering-preserved c =
     let now = c.gathering.invariant in
     let rows = c.gathering.blocks.items in
-    let many : 128 < length (row rows (c.gathering.b - 1 - 1)) + length (row rows (c.gathering.b - 1 - 1 + 1)) = omega (arith, c.len_at.ensures.value, c.len_at-in-gathering.ensures.value, c.if-len_at-le-LONG.false) in
+    let many : 512 < length (row rows (c.gathering.b - 1 - 1)) + length (row rows (c.gathering.b - 1 - 1 + 1)) = omega (arith, c.len_at.ensures.value, c.len_at-in-gathering.ensures.value, c.if-len_at-le-LONG.false) in
     record {
       within = omega (arith, now.within);
       spans = now.spans;
