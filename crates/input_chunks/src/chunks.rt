@@ -336,11 +336,12 @@ fn joined_part(
     Ok(None)
 }
 
-/// The bytes, where the piece in which they end is so long that no push lengthens it.
+/// The bytes, where the piece in which they end is so long that no push lengthens it, or they are more
+/// than a push that lengthens it then copies.
 fn if_long(bytes: Bytes, piece_len: usize) -> Option<Bytes>
     ensures { IfSome result (λ b. b ≡ bytes) }
 {
-    if piece_len as u128 > LONGEST {
+    if piece_len as u128 > LONGEST || bytes.len() as u128 > LONGEST {
         Some(bytes)
     } else {
         None
