@@ -112,10 +112,12 @@ fn put_apart(blocks: &mut Vec<Block>, b: usize, i: usize, x: Span, right: Block)
 pub(crate) fn put_if_room(
     blocks: &mut Vec<Block>,
     starts: &mut Vec<usize>,
+    len: usize,
     i: usize,
     x: &Span,
 ) -> bool
-    requires within { i ≤ length (row_items blocks.old.items) }
+    requires len { len ≡ length (row_items blocks.old.items) }
+    requires within { i ≤ len }
     requires small { length (row_items blocks.old.items) + 1 < 2 ^ 64 }
     requires starts { AreStarts starts.old.items blocks.old.items }
     requires filled { AreFilled blocks.old.items }
@@ -130,7 +132,7 @@ pub(crate) fn put_if_room(
     if blocks.is_empty() {
         return false;
     }
-    let place = place_to_put(blocks, starts, i);
+    let place = place_to_put(blocks, starts, len, i);
     if len_at(blocks, place.block) < LONG {
         put_in(blocks, place.block, place.index, *x);
         raise(starts, place.block);
@@ -143,11 +145,13 @@ pub(crate) fn put_if_room(
 pub(crate) fn put(
     blocks: &mut Vec<Block>,
     starts: &mut Vec<usize>,
+    len: usize,
     i: usize,
     x: Span,
     fresh: Block,
 ) -> Option<Block>
-    requires within { i ≤ length (row_items blocks.old.items) }
+    requires len { len ≡ length (row_items blocks.old.items) }
+    requires within { i ≤ len }
     requires small { length (row_items blocks.old.items) + 1 < 2 ^ 64 }
     requires starts { AreStarts starts.old.items blocks.old.items }
     requires empty { fresh ≡ [] }
@@ -167,7 +171,7 @@ pub(crate) fn put(
         blocks.push_reserved(block);
         return None;
     }
-    let place = place_to_put(blocks, starts, i);
+    let place = place_to_put(blocks, starts, len, i);
     if len_at(blocks, place.block) < LONG {
         put_in(blocks, place.block, place.index, x);
         raise(starts, place.block);

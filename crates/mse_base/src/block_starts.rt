@@ -2,7 +2,7 @@
 //! the way to a place.
 
 ghost use Rattle.std.specs.Prelude.{◌≡◌, ℕ, ◌+◌, ◌*◌, ◌/◌, ◌^◌, ◌<◌, ◌≤◌, length, slice_index, vec_capacity};
-ghost use Rattle.mse_base.specs.Rows.{row_items, start, row, AreStarts};
+ghost use Rattle.mse_base.specs.Rows.{row_items, start, row, AreFilled, AreStarts};
 
 use crate::span_block::Block;
 
@@ -75,8 +75,8 @@ fn group_of(blocks: &Vec<Block>, starts: &Vec<usize>, i: usize) -> usize
     low
 }
 
-/// The place of a span.
-pub(crate) fn place_of(blocks: &Vec<Block>, starts: &Vec<usize>, i: usize) -> BlockPlace
+/// The place of a span, by a walk from the start of its group.
+fn place_in_group(blocks: &Vec<Block>, starts: &Vec<usize>, i: usize) -> BlockPlace
     requires within { i < length (row_items blocks.now.items) }
     requires starts { AreStarts starts.now.items blocks.now.items }
     ensures block { result.block < length blocks.now.items }
@@ -96,11 +96,43 @@ pub(crate) fn place_of(blocks: &Vec<Block>, starts: &Vec<usize>, i: usize) -> Bl
     }
 }
 
-/// The place at which a span is put: that behind a block's last rather than before the next one's
-/// first.
-pub(crate) fn place_to_put(blocks: &Vec<Block>, starts: &Vec<usize>, i: usize) -> BlockPlace
-    requires within { i ≤ length (row_items blocks.now.items) }
+/// The place of one of `len` spans. The first, and those of the last block, take no walk.
+pub(crate) fn place_of(blocks: &Vec<Block>, starts: &Vec<usize>, len: usize, i: usize) -> BlockPlace
+    requires len { len ≡ length (row_items blocks.now.items) }
+    requires within { i < len }
+    requires filled { AreFilled blocks.now.items }
+    requires starts { AreStarts starts.now.items blocks.now.items }
+    ensures block { result.block < length blocks.now.items }
+    ensures index { result.index < length (row blocks.now.items result.block) }
+    ensures rank { start blocks.now.items result.block + result.index ≡ i }
+{
+    if i == 0 {
+        return BlockPlace { block: 0, index: 0 };
+    }
+    let last = blocks.len() - 1;
+    let last_len = len_at(blocks, last);
+    let from_end = len - i;
+    if from_end <= last_len {
+        return BlockPlace {
+            block: last,
+            index: last_len - from_end,
+        };
+    }
+    place_in_group(blocks, starts, i)
+}
+
+/// The place at which one of `len` spans is put: that behind a block's last rather than before the
+/// next one's first.
+pub(crate) fn place_to_put(
+    blocks: &Vec<Block>,
+    starts: &Vec<usize>,
+    len: usize,
+    i: usize,
+) -> BlockPlace
+    requires len { len ≡ length (row_items blocks.now.items) }
+    requires within { i ≤ len }
     requires some { 0 < length blocks.now.items }
+    requires filled { AreFilled blocks.now.items }
     requires starts { AreStarts starts.now.items blocks.now.items }
     ensures block { result.block < length blocks.now.items }
     ensures index { result.index ≤ length (row blocks.now.items result.block) }
@@ -109,7 +141,7 @@ pub(crate) fn place_to_put(blocks: &Vec<Block>, starts: &Vec<usize>, i: usize) -
     if i == 0 {
         return BlockPlace { block: 0, index: 0 };
     }
-    let last = place_of(blocks, starts, i - 1);
+    let last = place_of(blocks, starts, len, i - 1);
     BlockPlace {
         block: last.block,
         index: last.index + 1,

@@ -51,8 +51,8 @@ pub(crate) fn place_reaching(ranges: &SpanList, gap: Ticks, span: &Span) -> usiz
     ranges.count_ending(span.start, gap)
 }
 
-/// The range that has a time, or ends at it.
-pub(crate) fn span_holding(ranges: &SpanList, t: Ticks) -> Option<Span>
+/// The range that has a time, or ends at it, by a search among all.
+fn search_holding(ranges: &SpanList, t: Ticks) -> Option<Span>
     requires { IsNormalized ranges.now.spans }
     ensures { result ≡ find (reaches t) ranges.now.spans }
 {
@@ -64,6 +64,26 @@ pub(crate) fn span_holding(ranges: &SpanList, t: Ticks) -> Option<Span>
         }
     }
     None
+}
+
+/// The range that has a time, or ends at it. Mostly there is one range, or the first has the time:
+/// then nothing is searched.
+pub(crate) fn span_holding(ranges: &SpanList, t: Ticks) -> Option<Span>
+    requires { IsNormalized ranges.now.spans }
+    ensures { result ≡ find (reaches t) ranges.now.spans }
+{
+    let len = ranges.len();
+    if len == 0 {
+        return None;
+    }
+    let first = ranges.get(0);
+    if t <= first.end {
+        return if first.start <= t { Some(first) } else { None };
+    }
+    if len == 1 {
+        return None;
+    }
+    search_holding(ranges, t)
 }
 
 /// The span at a place; `None` exactly where `i` is past the last.

@@ -99,10 +99,12 @@ fn put_in_place(
     blocks: &mut Vec<Block>,
     pool: &mut Vec<Block>,
     starts: &mut Vec<usize>,
+    len: usize,
     i: usize,
     x: Span,
 )
-    requires within { i ≤ length (row_items blocks.old.items) }
+    requires len { len ≡ length (row_items blocks.old.items) }
+    requires within { i ≤ len }
     requires room { length pool.old.items + length blocks.old.items ≤ vec_capacity pool.old }
     requires block_room { length pool.old.items + length blocks.old.items
         ≤ vec_capacity blocks.old }
@@ -122,7 +124,7 @@ fn put_in_place(
     ensures pool_capacity { vec_capacity pool.new ≡ vec_capacity pool.old }
 {
     let fresh = take_fresh(blocks, pool, starts);
-    match put(blocks, starts, i, x, fresh) {
+    match put(blocks, starts, len, i, x, fresh) {
         Some(block) => pool.push_reserved(block),
         None => {}
     }
@@ -260,7 +262,7 @@ impl SpanBlocks {
         requires { i < length self.now.spans }
         ensures { result ≡ slice_index_or self.now.spans i result }
     {
-        let place = place_of(&self.blocks, &self.starts, i);
+        let place = place_of(&self.blocks, &self.starts, self.len, i);
         span_at(&self.blocks, place)
     }
 
@@ -270,7 +272,7 @@ impl SpanBlocks {
         ensures spans { self.new.spans ≡ slice_set self.old.spans i x }
         ensures spare { self.new.spare ≡ self.old.spare }
     {
-        let place = place_of(&self.blocks, &self.starts, i);
+        let place = place_of(&self.blocks, &self.starts, self.len, i);
         set_in(&mut self.blocks, place.block, place.index, x);
     }
 
@@ -281,12 +283,20 @@ impl SpanBlocks {
         ensures spans { self.new.spans ≡ insert self.old.spans i x }
         ensures spare { self.new.spare + 1 ≡ self.old.spare }
     {
+        let len = self.len;
         self.len += 1;
         self.spare -= 1;
-        if put_if_room(&mut self.blocks, &mut self.starts, i, &x) {
+        if put_if_room(&mut self.blocks, &mut self.starts, len, i, &x) {
             return;
         }
-        put_in_place(&mut self.blocks, &mut self.pool, &mut self.starts, i, x);
+        put_in_place(
+            &mut self.blocks,
+            &mut self.pool,
+            &mut self.starts,
+            len,
+            i,
+            x,
+        );
     }
 
     /// Takes out a span.
@@ -295,7 +305,7 @@ impl SpanBlocks {
         ensures spans { self.new.spans ≡ remove self.old.spans i }
         ensures spare { self.new.spare ≡ self.old.spare + 1 }
     {
-        let place = place_of(&self.blocks, &self.starts, i);
+        let place = place_of(&self.blocks, &self.starts, self.len, i);
         self.len -= 1;
         self.spare += 1;
         if len_at(&self.blocks, place.block) > 1 {

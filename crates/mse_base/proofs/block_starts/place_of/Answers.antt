@@ -1,23 +1,17 @@
-use Rattle.std.proofs.Common.{◌≡◌, ◌*◌, ◌≤◌, length, arith}
-use Rattle.mse_base.specs.Rows.{row}
-use Rattle.mse_base.proofs.InRows.{rows_behind, start_more}
+use Rattle.std.proofs.Common.{◌≡◌, ◌+◌, ◌-◌, length, arith}
+use Rattle.mse_base.proofs.InRows.{filled_row, start_all, start_more}
 use Rattle.mse_base.proofs.BlockStarts.{row_there}
 use Rattle.mse_base.proofs.block_starts.place_of.Goals as goal
 
-pub walk-init : goal.walk-init
-walk-init c =
-    let group = c.group_of-group.result in
-    let z : group * 32 ≡ 32 * group = omega arith in
-    rw z (record {
-      within = row_there c.args.blocks.now.items (32 * group) (omega (arith, c.group_of-group.ensures.before, c.requires.within));
-      rank = omega (arith, c.group_start.ensures, c.group_of-group.ensures.before);
-    })
-
-pub walk-preserved : goal.walk-preserved
-walk-preserved c =
+pub returns-then-i-eq0-clause-index : goal.returns-then-i-eq0-clause-index
+returns-then-i-eq0-clause-index c =
     let rows = c.args.blocks.now.items in
-    let low : length (row rows c.walk.block) ≤ c.walk.index = omega (arith, c.len_at-len.ensures.value, c.if-index-len.false) in
-    record {
-      within = rows_behind rows c.walk.block c.walk.invariant.within (omega (arith, low, c.walk.invariant.rank, c.requires.within));
-      rank = omega (arith, start_more rows c.walk.block c.walk.invariant.within, c.len_at-len.ensures.value, low, c.walk.invariant.rank);
-    }
+    filled_row rows 0 c.requires.filled (row_there rows 0 (omega (arith, c.requires.len, c.requires.within)))
+
+pub returns-then-from_end-last_len-clause-rank : goal.returns-then-from_end-last_len-clause-rank
+returns-then-from_end-last_len-clause-rank c =
+    let rows = c.args.blocks.now.items in
+    let last = c.len-last.result - 1 in
+    let some = row_there rows 0 (omega (arith, c.requires.len, c.requires.within)) in
+    let end : last + 1 ≡ length rows = omega (arith, some, c.len-last.ensures) in
+    omega (arith, start_more rows last (omega (arith, end)), start_all rows (last + 1) end, c.len_at-last_len.ensures.value, c.requires.len, c.requires.within, c.if-from_end-last_len.true)

@@ -1,6 +1,6 @@
 use Rattle.std.proofs.Common.{◌≡◌, ◌-◌, ◌+◌, ◌<◌, length}
 use Rattle.mse_base.specs.Rows.{start}
-use Rattle.mse_base.proofs.block_starts.place_of.Given as goal
+use Rattle.mse_base.proofs.block_starts.place_in_group.Given as goal
 
 abbrev pub invariant-walk : goal.invariant-walk
 invariant-walk l = record {
