@@ -218,6 +218,8 @@ impl FrameStore for IndexStore {
             Some(more) => more,
             None => return Err(OutOfMemory),
         };
+        // Where all frames of a range are cut, or one that the others lie in is removed, each may get
+        // a range of its own; neither takes memory, so there is room for a range a frame.
         let surplus = self.items.len() - self.ranges.len();
         match more.checked_add(surplus) {
             Some(room) => self.ranges.reserve(room),
