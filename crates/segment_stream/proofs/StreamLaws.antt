@@ -38,11 +38,13 @@ use Rattle.segment_walk.proofs.Latest.{last-move, IsLatestInWalk, state-latest}
 use Rattle.segment_stream.specs.declared.progress.Progress.{Progress}
 use Rattle.segment_stream.specs.declared.progress.ParserPosition.{ParserPosition}
 use Rattle.segment_stream.specs.declared.progress.Tables.{Tables}
+use Rattle.mse_base.specs.declared.frame.CodedFrame.{CodedFrame}
 use Rattle.parser_loop.specs.declared.next.Next.{Next}
+use Rattle.parser_loop.specs.declared.next.Next.TheVariants as next
 use Rattle.parser_loop.specs.StringReadings.{StringReading, after_answer, string_from, with_bytes}
 use Rattle.segment_walk.specs.declared.kinds.StreamFault.{StreamFault}
 use Rattle.segment_stream.specs.declared.stream.Offered.{Offered}
-use Rattle.segment_stream.specs.Kept.{frames, IsCountedIn, IsStillBelow, IsStillAtFront, IsEmptied, IsFoundWith, IsLast, kept_of, progress_at_start, last_bytes, snapshot, ParserSnapshot}
+use Rattle.segment_stream.specs.Kept.{frames, IsCountedIn, IsEndingBy, IsStillBelow, IsStillAtFront, IsEmptied, IsFoundWith, IsLast, kept_of, progress_at_start, last_bytes, snapshot, ParserSnapshot}
 use Rattle.segment_stream.specs.Streams.{IsKeptFor, Stands, HasReading, ForEachReading, StandsAfter, IsStanding, SegmentView, segment_view, pushed_last, IsStreamAtRest, IsStreamWithOffer, IsSegmentStream}
 use Rattle.segment_stream.proofs.PendingLaws.{some-there, rested}
 use Rattle.segment_stream.proofs.ArmLaws.{all-kept, dropped}
@@ -446,3 +448,65 @@ timed-of r i (Some item) e = timed-segment r.whole item (item-place r.before r.w
 pub timed-answer : {E : Type 0} (result : Result (Next StreamFault) E) (v : SegmentView) (at : ℕ → ℕ) → HasReading v → ForEachReading v (λ r. IfOk result (λ x. answer_item x ≡ slice_get (items_of_string r.before r.whole) (at r.taken))) → IfOk result (λ x. IfSome (answer_item x) IsTimed)
 timed-answer (Ok x) v at h f = timed-of h.reading (at h.reading.taken) (answer_item x) (f h.reading h.stands)
 timed-answer (Err e) v at h f = tt
+
+-- ---- the next frame
+
+counts-next : (m : ParserMode) (tables : Tables) (first ready : ℕ) → 0 < ready → IsCountedIn m tables first ready → IsCountedIn m tables (first + 1) (ready - 1)
+counts-next (codes.Between o) tables first ready z h = omega arith
+counts-next (codes.Skipping to left) tables first ready z h = omega arith
+counts-next (codes.Within f) tables first ready z h = record {
+  taken = omega (arith, h.taken);
+  slots_there = h.slots_there;
+  few = h.few;
+  ordered = h.ordered;
+  known_there = h.known_there;
+  ascending = h.ascending;
+  ended = h.ended;
+  behind = h.behind;
+  small = h.small;
+}
+
+ends-next : (n : ℕ) (slots : List Slot) (first ready : ℕ) → 0 < ready → IsEndingBy n slots first ready → IsEndingBy n slots (first + 1) (ready - 1)
+ends-next n slots first zero z h = absurd (omega arith)
+ends-next n slots first (suc ready) z h = let e : suc ready - 1 ≡ ready = omega arith in subst (IsEndingBy n slots (first + 1)) (sym e) h.1
+
+-- behind the first of the frames that are ready
+abbrev pub behind_frame : Progress → Progress
+behind_frame r = record { position = r.position; from = r.from; first = r.first + 1; ready = r.ready - 1; want = r.want }
+
+taken-rests : (last : Option Presentation) (r : Progress) (tables : Tables) (input : List (List ℕ)) → 0 < r.ready → IsStillAtFront (snapshot last r tables input) → IsStillAtFront (snapshot last (behind_frame r) tables input)
+taken-rests last r tables input z h = record {
+  front = h.front;
+  consistent = record {
+    inside = h.consistent.inside;
+    counts = counts-next r.position.mode tables r.first r.ready z h.consistent.counts;
+    ends = ends-next (length (concat input) - r.from) tables.slots.items r.first r.ready z h.consistent.ends;
+    small = h.consistent.small;
+  };
+  rests = h.rests;
+}
+
+pub frame-holds : {E : Type 0} (result : Result (CodedFrame × ℕ) E) (last : Option Presentation) (r new : Progress) (tables : Tables) (input : List (List ℕ)) (fed : ℕ) → IsStreamAtRest (snapshot last r tables input) input fed → 0 < r.ready → OnOk result (new ≡ behind_frame r) → OnErr result (new ≡ r) → IsStreamAtRest (snapshot last new tables input) input fed
+frame-holds (Ok x) last r new tables input fed h z e f = rw e (record {
+  rest = taken-rests last r tables input z h.rest;
+  emptied = λ failed. absurd (omega (arith, (h.emptied failed).1, z));
+  readable = h.readable;
+  none_empty = h.none_empty;
+  total = h.total;
+  few = h.few;
+})
+frame-holds (Err x) last r new tables input fed h z e f = rw f h
+
+pub frame-item : {E : Type 0} (result : Result (CodedFrame × ℕ) E) (last : Option Presentation) (r : Progress) (tables : Tables) (input : List (List ℕ)) (fed : ℕ) (v : SegmentView) → segment_view (snapshot last r tables input) input fed None ≡ v → IfOk result (λ x. Some (FrameItem x.0 x.1) ≡ first_item segments (kept_of (snapshot last r tables input))) → ForEachKept v.kept (λ reading. IfOk result (λ x. Some (FrameItem x.0 x.1) ≡ slice_get (items_of_string reading.before reading.whole) reading.taken))
+frame-item {E = E} (Ok x) last r tables input fed v e g reading st = next-item {E = E} (Ok (next.Frame x.0 x.1)) last r tables input fed v e g reading st
+frame-item (Err x) last r tables input fed v e g reading st = tt
+
+pub frame-stands : {E : Type 0} (result : Result (CodedFrame × ℕ) E) (last : Option Presentation) (r new : Progress) (tables : Tables) (input : List (List ℕ)) (fed : ℕ) (v : SegmentView) → segment_view (snapshot last r tables input) input fed None ≡ v → IfOk result (λ x. Some (FrameItem x.0 x.1) ≡ first_item segments (kept_of (snapshot last r tables input))) → OnOk result (kept_of (snapshot last new tables input) ≡ after_first segments (kept_of (snapshot last r tables input))) → IfOk result (λ x. StandsAfter v (after_answer {I = SegmentItem} (Some (FrameItem x.0 x.1))) (segment_view (snapshot last new tables input) input fed None))
+frame-stands {E = E} (Ok x) last r new tables input fed v e g k =
+    let t : SegmentView = segment_view (snapshot last new tables input) input fed None in
+    stands-next {E = E} (Ok (next.Frame x.0 x.1)) v t (ap (λ (w : SegmentView). w.fed) e) (next-stands {E = E} (Ok (next.Frame x.0 x.1)) last last r new tables tables input input fed v e g k)
+frame-stands (Err x) last r new tables input fed v e g k = tt
+
+pub frame-reading : {E : Type 0} (result : Result (CodedFrame × ℕ) E) (last : Option Presentation) (r new : Progress) (tables : Tables) (input : List (List ℕ)) (fed : ℕ) (v : SegmentView) → segment_view (snapshot last r tables input) input fed None ≡ v → IfOk result (λ x. StandsAfter v (after_answer {I = SegmentItem} (Some (FrameItem x.0 x.1))) (segment_view (snapshot last new tables input) input fed None)) → OnErr result (new ≡ r) → HasReading v → HasReading (segment_view (snapshot last new tables input) input fed None)
+frame-reading (Ok x) last r new tables input fed v e f g h = record { reading = after_answer {I = SegmentItem} (Some (FrameItem x.0 x.1)) h.reading; stands = f h.reading h.stands }
+frame-reading (Err x) last r new tables input fed v e f g h = subst HasReading (sym (ap (λ (p : Progress). segment_view (snapshot last p tables input) input fed None) g ∙ e)) h

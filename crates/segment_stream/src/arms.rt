@@ -4,7 +4,7 @@ ghost use Rattle.mse_base.specs.declared.track.Presentation.{Presentation};
 ghost use Rattle.parser_loop.specs.Walk.{lookahead_from, first_item, after_first};
 ghost use Rattle.input_chunks.specs.Pieces.{pieces_without_first, HasNoEmptyPiece};
 ghost use Rattle.segment_walk.specs.Moves.{segments};
-ghost use Rattle.parser_loop.specs.Items.{FaultItem};
+ghost use Rattle.parser_loop.specs.Items.{FaultItem, FrameItem};
 ghost use Rattle.segment_stream.specs.Kept.{IsStillBelowWant, IsConsistent, IsStillAtFront, IsEmptied, IsLast, kept_of, last_bytes, snapshot, state_behind, end_of_input};
 ghost use Rattle.parser_loop.specs.Items.{latest_after_any, answer_item};
 
@@ -14,26 +14,24 @@ use crate::offers::accept_on;
 use crate::pending::{look_frame, pending_item};
 use crate::progress::{ParserPosition, PendingItem, Progress, ProgressWithTables, Tables};
 use input_chunks::Chunks;
-use mse_base::{OutOfMemory, Phase, Presentation};
+use mse_base::{CodedFrame, OutOfMemory, Phase, Presentation};
 use segment_walk::{ParserMode, StreamFault};
 use std::alloc::Global;
 
 /// Takes the first ready frame. An `Err` changes nothing.
-fn take_frame(
+pub(crate) fn take_frame(
     progress: &mut Progress,
     tables: &Tables,
     input: &Chunks,
-) -> Result<SegmentNext, OutOfMemory>
+) -> Result<(CodedFrame, u64), OutOfMemory>
     requires ready { 0 < progress.old.ready }
     requires front { progress.old.from ≡ 0 }
     requires consistent { IsConsistent progress.old tables.now (concat input.now) }
-    ensures item { (last : Option Presentation) → IfOk result (λ x. answer_item x
+    ensures item { (last : Option Presentation) → IfOk result (λ x. Some (FrameItem x.0 x.1)
         ≡ first_item segments (kept_of (snapshot last progress.old tables.now input.now))) }
     ensures ok { (last : Option Presentation) → OnOk result
         (kept_of (snapshot last progress.new tables.now input.now)
         ≡ after_first segments (kept_of (snapshot last progress.old tables.now input.now))) }
-    ensures last { (last : Option Presentation) → IfOk result (λ x.
-        last ≡ latest_after_any last (answer_item x)) }
     ensures progress { OnOk result (progress.new ≡ record {
       position = progress.old.position;
       from = progress.old.from;
@@ -198,7 +196,8 @@ pub(crate) fn next_on(
     ensures err_input { OnErr result (input.new ≡ input.old) }
 {
     if progress.ready > 0 {
-        return take_frame(progress, tables, input);
+        let (frame, offset) = take_frame(progress, tables, input)?;
+        return Ok(SegmentNext::Frame(frame, offset));
     }
     match pending_item(alloc, last, progress, tables, input)? {
         PendingItem::Dry => Ok(SegmentNext::Dry),

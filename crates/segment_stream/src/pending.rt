@@ -7,7 +7,7 @@ ghost use Rattle.bmff_fragment.specs.Plans.{plan_of};
 ghost use Rattle.bmff_init.specs.Movies.{init_of};
 ghost use Rattle.segment_walk.specs.Moves.{WalkState, move_of_init, move_of_moof};
 ghost use Rattle.segment_stream.specs.Kept.{IsConsistent, IsStillAtFront, IsPendingItem, HasPendingBytes, IsLast, move_of_pending, kept_of, is_skipping, snapshot};
-ghost use Rattle.parser_loop.specs.Items.{latest_after_any, answer_item};
+ghost use Rattle.parser_loop.specs.Items.{FrameItem, answer_item};
 
 use crate::moves::next_step;
 use crate::next::SegmentNext;
@@ -40,17 +40,15 @@ pub(crate) fn look_frame(
     tables: &Tables,
     input: &Chunks,
     i: usize,
-) -> Result<SegmentNext, OutOfMemory>
+) -> Result<(CodedFrame, u64), OutOfMemory>
     requires ready { i < progress.now.ready }
     requires front { progress.now.from ≡ 0 }
     requires consistent { IsConsistent progress.now tables.now (concat input.now) }
-    ensures item { (last : Option Presentation) → IfOk result (λ x. answer_item x
+    ensures { (last : Option Presentation) → IfOk result (λ x. Some (FrameItem x.0 x.1)
         ≡ slice_get (kept_of (snapshot last progress.now tables.now input.now)).items i) }
-    ensures last { (last : Option Presentation) → IfOk result (λ x.
-        last ≡ latest_after_any last (answer_item x)) }
 {
     let Some(slot) = slot_at(tables.slots.as_slice(), progress.first + i) else {
-        return Ok(SegmentNext::Dry);
+        unreachable!();
     };
     let payload = copy_payload(input, slot.start, slot.end)?;
     let offset = progress.position.offset + slot.start;
@@ -62,7 +60,7 @@ pub(crate) fn look_frame(
         sync: slot.sync,
         payload,
     };
-    Ok(SegmentNext::Frame(frame, offset))
+    Ok((frame, offset))
 }
 
 /// The item of a moov of `len` bytes that is whole: its initialization segment, or its fault.

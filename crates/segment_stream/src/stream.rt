@@ -5,18 +5,19 @@ ghost use Rattle.segment_walk.specs.declared.kinds.DataRange.{DataRange};
 ghost use Rattle.bmff_fragment.specs.declared.slot.Slot.{Slot};
 ghost use Rattle.segment_walk.specs.Ranges.{mode_of};
 ghost use Rattle.segment_walk.specs.Segments.{items_of_string, next_item, item_ahead, phase_before, ready_before, held_before};
-ghost use Rattle.parser_loop.specs.Items.{IsTimed, latest_after_any, answer_item};
+ghost use Rattle.parser_loop.specs.Items.{FrameItem, IsTimed, latest_after_any, answer_item};
 ghost use Rattle.parser_loop.specs.StringReadings.{after_answer, after_reset, string_from, with_bytes};
 ghost use Rattle.segment_walk.specs.Strings.{phase_of};
+ghost use Rattle.segment_walk.specs.Tables.{SegmentItem};
 ghost use Rattle.segment_stream.specs.Kept.{progress_at_start};
 
-use crate::arms::next_on;
+use crate::arms::{next_on, take_frame};
 use crate::next::SegmentNext;
 use crate::offers::{accept_on, offer_on};
 use crate::pending::{look_frame, next_of, pending_item};
 use crate::progress::{ParserPosition, Progress, Tables};
 use input_chunks::Chunks;
-use mse_base::{Bytes, OutOfMemory, Phase, Presentation};
+use mse_base::{Bytes, CodedFrame, OutOfMemory, Phase, Presentation};
 use segment_walk::ParserMode;
 use std::alloc::Global;
 use std::marker::Model;
@@ -239,7 +240,8 @@ impl Stream {
         ensures timed { IfOk result (λ next. IfSome (answer_item next) IsTimed) }
     {
         if i < self.progress.ready {
-            return look_frame(&self.progress, &self.tables, &self.input, i);
+            let (frame, offset) = look_frame(&self.progress, &self.tables, &self.input, i)?;
+            return Ok(SegmentNext::Frame(frame, offset));
         }
         let pending = pending_item(
             self.alloc,
@@ -277,6 +279,24 @@ impl Stream {
             &mut self.tables,
             &mut self.input,
         )
+    }
+
+    /// The coded frame that comes next, with the offset of its payload in the string, where one is ready. An
+    /// `Err` changes nothing.
+    pub fn next_frame(&mut self) -> Result<(CodedFrame, u64), OutOfMemory>
+        requires none_offered { self.old.offered ≡ None }
+        requires ready { 0 < length self.old.kept.items }
+        ensures item { ForEachReading self.old
+            (λ r. IfOk result (λ x. Some (FrameItem x.0 x.1) ≡ next_item r)) }
+        ensures stands { IfOk result (λ x. StandsAfter self.old
+            (after_answer {I = SegmentItem} (Some (FrameItem x.0 x.1))) self.new) }
+        ensures last { self.new.kept.state.last ≡ self.old.kept.state.last }
+        ensures pieces { self.new.pieces ≡ self.old.pieces }
+        ensures fed { self.new.fed ≡ self.old.fed }
+        ensures none_offered { self.new.offered ≡ None }
+        ensures err { OnErr result (self.new ≡ self.old) }
+    {
+        take_frame(&mut self.progress, &self.tables, &self.input)
     }
 
     /// Hands out that the stream stands for some string; it does nothing.

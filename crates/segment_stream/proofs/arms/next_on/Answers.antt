@@ -1,4 +1,4 @@
-use Rattle.std.proofs.Common.{Ok, Err, Result, OnOk, drop, length, ap, ◌∙◌, sym, arith}
+use Rattle.std.proofs.Common.{drop, length, ap, ◌∙◌, sym, arith}
 use Rattle.std.specs.List.{concat}
 use Rattle.segment_walk.specs.Moves.{WalkState}
 use Rattle.segment_stream.specs.declared.progress.Progress.{Progress}
@@ -8,15 +8,8 @@ use Rattle.segment_stream.proofs.ArmLaws.{all-kept, bytes-gone, dropped, front-i
 use Rattle.segment_stream.proofs.arms.next_on.Goals as goal
 use Rattle.segment_stream.proofs.Snapshots.{walk_state}
 
-on_any : {T E P : Type 0} (r : Result T E) → P → OnOk r P
-on_any (Ok x) p = p
-on_any (Err e) p = tt
-
-pub returns-then-progress-gt0-clause-last : goal.returns-then-progress-gt0-clause-last
-returns-then-progress-gt0-clause-last c = c.take_frame.ensures.last c.args.last.now
-
 pub returns-then-progress-gt0-clause-pieces : goal.returns-then-progress-gt0-clause-pieces
-returns-then-progress-gt0-clause-pieces c = on_any c.take_frame.result (all-kept c.args.input.now c.requires.none_empty)
+returns-then-progress-gt0-clause-pieces c = all-kept c.args.input.now c.requires.none_empty
 
 pub returns-in-Dry-clause-pieces : goal.returns-in-Dry-clause-pieces
 returns-in-Dry-clause-pieces c = all-kept c.args.input.now c.requires.none_empty

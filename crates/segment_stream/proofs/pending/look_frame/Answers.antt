@@ -1,9 +1,16 @@
-use Rattle.std.proofs.Common.{◌≡◌, ◌+◌, ◌-◌, Some, length, drop, slice_get, slice_range, ap, ◌∙◌, sym, arith}
+use Rattle.std.proofs.Common.{◌≡◌, ◌+◌, ◌-◌, Some, None, length, drop, slice_get, slice_range, ap, ◌∙◌, sym, arith}
 use Rattle.std.specs.List.{concat}
 use Rattle.bmff_fragment.specs.declared.slot.Slot.{Slot}
 use Rattle.parser_loop.specs.Items.{FrameItem}
-use Rattle.segment_stream.proofs.PendingLaws.{frame-is, frame-ends, frame-ordered}
+use Rattle.segment_stream.proofs.PendingLaws.{frame-is, frame-ends, frame-ordered, frame-there}
 use Rattle.segment_stream.proofs.pending.look_frame.Goals as goal
+
+pub unreachable-requires : goal.unreachable-requires
+unreachable-requires c =
+    let r = c.args.progress.now in
+    let slots = c.args.tables.now.slots.items in
+    let none : slice_get slots (r.first + c.args.i) ≡ None = sym (c.slot_at.ensures ∙ ap (λ xs. slice_get xs (r.first + c.args.i)) c.as_slice.ensures.value) ∙ c.in_default.is in
+    frame-there r.position.mode c.args.tables.now r.first r.ready c.args.i c.requires.consistent.counts c.requires.ready none
 
 pub copy_payload-requires-clause-inside : goal.copy_payload-requires-clause-inside
 copy_payload-requires-clause-inside c =
@@ -29,8 +36,8 @@ overflow_add-offset c =
     let o = frame-ordered r.position.mode c.args.tables.now r.first r.ready c.args.i c.in-Some.slot c.requires.consistent.counts c.requires.ready e in
     omega (arith, c.requires.consistent.small)
 
-pub returns-clause-item : goal.returns-clause-item
-returns-clause-item c = λ last.
+pub returns : goal.returns
+returns c = λ last.
     let r = c.args.progress.now in
     let slot : Slot = c.in-Some.slot in
     let slots = c.args.tables.now.slots.items in

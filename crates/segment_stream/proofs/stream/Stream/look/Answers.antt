@@ -1,4 +1,4 @@
-use Rattle.std.proofs.Common.{◌≡◌, ℕ, ◌+◌, ◌<◌, ◌≤◌, ◌⊎◌, inl, inr, Result, Ok, Err, IfOk, length, drop, slice_get, ap, ◌∙◌, sym, refl, subst, arith}
+use Rattle.std.proofs.Common.{◌≡◌, ℕ, ◌+◌, ◌<◌, ◌≤◌, ◌⊎◌, inl, inr, length, drop, slice_get, ap, ◌∙◌, sym, refl, subst, arith}
 use Rattle.std.specs.List.{concat}
 use Rattle.parser_loop.specs.Items.{answer_item}
 use Rattle.parser_loop.specs.Walk.{first_item}
@@ -6,13 +6,9 @@ use Rattle.segment_walk.specs.Moves.{WalkState, segments}
 use Rattle.segment_walk.specs.Segments.{items_of_string}
 use Rattle.segment_stream.specs.Streams.{SegmentView, HasReading}
 use Rattle.segment_stream.proofs.ArmLaws.{front-item}
-use Rattle.segment_stream.proofs.StreamLaws.{idle, frames-counted, stands-item, stands-ahead, timed-answer, timed-of}
+use Rattle.segment_stream.proofs.StreamLaws.{idle, frames-counted, stands-item, stands-ahead, timed-of}
 use Rattle.segment_stream.proofs.stream.Stream.look.Goals as goal
 use Rattle.segment_stream.proofs.Snapshots.{walk_state}
-
-if_ok : {T E : Type 0} (r : Result T E) (P R : T → Type 0) → IfOk r P → ((x : T) → P x → R x) → IfOk r R
-if_ok (Ok x) P R h f = f x h
-if_ok (Err e) P R h f = tt
 
 none-ready : (i ready count : ℕ) → ready ≤ i → count ≡ ready → (i ≡ 0) ⊎ (i < count) → (i ≡ 0) × (ready ≡ 0)
 none-ready i ready count l e (inl z) = (z, omega arith)
@@ -26,7 +22,7 @@ returns-then-i-self-clause-item c = λ reading st.
     let l = frames-counted r.position.mode (drop r.from (concat s.input)) r.position.offset s.tables r.first r.ready h.0.rest.consistent.counts in
     let k = ap (λ (v : SegmentView). v.kept.items) h.1 in
     let e = ap (λ items. slice_get items c.args.i) k ∙ stands-ahead c.args.self.now.kept c.args.i (omega (arith, l, ap length k)) reading st.kept in
-    if_ok c.look_frame.result _ _ (c.look_frame.ensures.item s.last) (λ x g. g ∙ e)
+    c.in_ok-frame.ensures s.last ∙ e
 
 pub returns-clause-item : goal.returns-clause-item
 returns-clause-item c = λ reading st.
@@ -41,9 +37,6 @@ returns-clause-item c = λ reading st.
     let q = front-item s.last r.position.mode r.position.offset r.from r.first r.ready r.want r.position.failed tables (concat s.input) c.in_ok-pending.pending h.0.rest.front z.1 c.in_ok-pending.ensures.value in
     let y : reading.taken ≡ reading.taken + c.args.i = omega arith in
     c.next_of.ensures t refl ∙ sym q.0 ∙ ap (λ (v : SegmentView). first_item segments v.kept) h.1 ∙ stands-item c.args.self.now.kept reading st.kept ∙ ap (slice_get (items_of_string reading.before reading.whole)) y
-
-pub returns-then-i-self-clause-timed : goal.returns-then-i-self-clause-timed
-returns-then-i-self-clause-timed c = timed-answer c.look_frame.result c.args.self.now (λ n. n + c.args.i) (subst HasReading c.self.view_is c.self.invariant.stands) (returns-then-i-self-clause-item c)
 
 pub returns-clause-timed : goal.returns-clause-timed
 returns-clause-timed c =
