@@ -1,14 +1,15 @@
 -- What the calls of each parser say of the byte stream.
-use Rattle.std.proofs.Common.{◌≡◌, ℕ, ◌+◌, List, length, Option, Some, None, slice_get, refl, ap, sym, ◌∙◌, subst, arith}
+use Rattle.std.proofs.Common.{◌≡◌, ℕ, ◌+◌, List, length, Option, Some, None, Result, Ok, Err, IfOk, slice_get, refl, ap, sym, ◌∙◌, subst, arith}
 use Rattle.std.specs.Prelude.{IfSome}
 use Rattle.std.specs.Option.{option_map}
 use Rattle.std.proofs.lemmas.List.{length-append}
 use Rattle.std.proofs.lemmas.Option.{slice_get-map}
+use Rattle.mse_base.specs.declared.frame.CodedFrame.{CodedFrame}
 use Rattle.mse_base.specs.declared.track.Presentation.{Presentation}
 use Rattle.mse_types.specs.declared.answer.Container.{Container}
 use Rattle.mse_types.specs.declared.answer.Container.TheVariants.{Mp4, Adts}
 use Rattle.parser_loop.specs.Walk.{count_after}
-use Rattle.parser_loop.specs.Items.{Item, latest_after_any, with_fault}
+use Rattle.parser_loop.specs.Items.{Item, FrameItem, latest_after_any, with_fault}
 use Rattle.parser_loop.specs.StringReadings.{StringReading}
 use Rattle.parser_loop.specs.StringReadings as string
 use Rattle.parser_loop.proofs.ItemLaws.{with-latest}
@@ -81,6 +82,16 @@ after-frames s t x o e f Mp4 r g h = absurd h
 
 pub behind-frames : (s t : frame_stream.AdtsView) (x : Option frame.AdtsItem) (o : Option ByteItem) → o ≡ option_map of_frames x → t.fed ≡ s.fed → frame_stream.StandsAfter s (string.after_answer x) t → StandsAfter (stream_view (parser.Frames s)) (after_answer o) (stream_view (parser.Frames t))
 behind-frames s t x o e g f r h = record { parser = after-frames s t x o e f r.container r.string h.fed h.parser; fed = g ∙ h.fed }
+
+-- ---- a frame that was given
+
+pub frame-in-segments : {E : Type 0} (result : Result (CodedFrame × ℕ) E) (s : segment_stream.SegmentView) → segment_stream.ForEachReading s (λ r. IfOk result (λ x. Some (FrameItem x.0 x.1) ≡ slice_get (segment.items_of_string r.before r.whole) r.taken)) → ForEachReading (stream_view (parser.Segments s)) (λ r. IfOk result (λ x. Some (FrameItem x.0 x.1) ≡ slice_get (items_in r) r.string.taken))
+frame-in-segments (Ok x) s f = seen-segments s (Some (FrameItem x.0 x.1)) (Some (FrameItem x.0 x.1)) (λ n. n) refl f
+frame-in-segments (Err e) s f = λ r h. tt
+
+pub frame-behind-segments : {E : Type 0} (result : Result (CodedFrame × ℕ) E) (s t : segment_stream.SegmentView) → t.fed ≡ s.fed → IfOk result (λ x. segment_stream.StandsAfter s (string.after_answer {I = SegmentItem} (Some (FrameItem x.0 x.1))) t) → IfOk result (λ x. StandsAfter (stream_view (parser.Segments s)) (after_answer (Some (FrameItem x.0 x.1))) (stream_view (parser.Segments t)))
+frame-behind-segments (Ok x) s t g f = behind-segments s t (Some (FrameItem x.0 x.1)) (Some (FrameItem x.0 x.1)) refl g f
+frame-behind-segments (Err e) s t g f = tt
 
 -- ---- bytes are appended
 

@@ -1,12 +1,13 @@
 -- Where a coded frame is ready, the next item is one.
 use Rattle.std.proofs.Common.{◌≡◌, ℕ, zero, suc, ◌<◌, pos, ◌≤ℤ◌, List, [], ◌∷◌, length, drop, refl, sym, subst, arith}
 use Rattle.std.specs.Prelude.{Option, Some, None, slice_get, Result, Ok, Err, IfOk}
+use Rattle.std.specs.Option.{option_map}
 use Rattle.mse_base.specs.declared.frame.CodedFrame.{CodedFrame}
 use Rattle.parser_loop.specs.Items.{InitItem, FrameItem, SegmentEnd, FaultItem, leading_frames, answer_item}
 use Rattle.parser_loop.specs.declared.next.Next.{Next}
 use Rattle.parser_loop.specs.declared.next.Next.TheVariants as next
-use Rattle.byte_stream.specs.declared.next.ByteFault.{ByteFault}
-use Rattle.byte_stream.specs.Readings.{Reading, ByteItem, items_in, ready_at, next_item}
+use Rattle.adts_stream.specs.declared.next.AdtsFault.{AdtsFault}
+use Rattle.byte_stream.specs.Readings.{Reading, ByteItem, of_frames, items_in, ready_at, next_item}
 use Rattle.byte_stream.specs.Streams.{StreamView, HasReading, ForEachReading, ready_of}
 use Rattle.byte_stream.proofs.KeptStreams.{ready-is}
 use Rattle.byte_stream.proofs.Lasting.{lasting-item}
@@ -35,8 +36,8 @@ next-frame s o ready some is =
     let more : 0 < length (ready_at r) = omega (arith, known, ready) in
     subst IsFrame (sym (is r some.stands)) (front (items_in r) r.string.taken more)
 
--- an answer that is no frame
-pub no-frame : (x : Next ByteFault) → ((f : CodedFrame) (at : ℕ) → x ≡ next.Frame f at → ⊥) → IsFrame (answer_item x) → ⊥
+-- an answer of a stream of ADTS frames that is no frame
+pub no-frame : (x : Next AdtsFault) → ((f : CodedFrame) (at : ℕ) → x ≡ next.Frame f at → ⊥) → IsFrame (option_map of_frames (answer_item x)) → ⊥
 no-frame (next.Init p at) other h = h
 no-frame (next.Frame f at) other h = other f at refl
 no-frame next.SegmentEnd other h = h

@@ -5,7 +5,7 @@ ghost use Rattle.byte_stream.specs.Readings.{new_reading, next_item, item_ahead,
 ghost use Rattle.byte_stream.specs.Streams.{Stands, HasReading, StandsAfter, ForEachReading, stream_view, latest_of, ready_of, phase_of, held_of};
 
 use crate::next::{ByteFault, Next};
-use adts_stream::AdtsStream;
+use adts_stream::{AdtsNext, AdtsStream};
 use mse_base::{Bytes, CodedFrame, OutOfMemory, Phase};
 use mse_types::Container;
 use segment_stream::Stream;
@@ -146,9 +146,12 @@ impl Parser {
         ensures none_offered { (stream_view self.new).offered ≡ None }
         ensures err { OnErr result (stream_view self.new ≡ stream_view self.old) }
     {
-        match self.next()? {
-            Next::Frame(frame, offset) => Ok((frame, offset)),
-            _ => unreachable!(),
+        match self {
+            Parser::Segments(stream) => stream.next_frame(),
+            Parser::Frames(stream) => match stream.next()? {
+                AdtsNext::Frame(frame, offset) => Ok((frame, offset)),
+                _ => unreachable!(),
+            },
         }
     }
 
