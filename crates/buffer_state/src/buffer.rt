@@ -10,7 +10,7 @@ ghost use Rattle.track_store.specs.State.{states_of};
 ghost use Rattle.track_buffers.specs.Settings.{new_media};
 ghost use Rattle.track_buffers.specs.Media.{is_awaiting_first};
 ghost use Rattle.track_buffers.specs.Frames.{used_in, highest_start_in, highest_end_in};
-ghost use Rattle.track_buffers.specs.Buffered.{buffered_of};
+ghost use Rattle.track_buffers.specs.Buffered.{buffered_of, is_buffered_up_to};
 ghost use Rattle.buffer_state.specs.State.{Feed, Content, KeptBuffer, Stands, surroundings, append_input, new_feed, phase_in, ready_in, is_updating, is_appending, is_removing};
 ghost use Rattle.buffer_state.specs.Replies.{IsDone, IsStillWithin, HasRangesAfterInit, IsTurnIfOk, IfDid, changes_of};
 ghost use Rattle.buffer_state.specs.Turns.{turn_result};
@@ -344,6 +344,14 @@ impl<S: FrameStore> Buffer<S> {
         ensures { result ≡ find (reaches t) (buffered_of ended self.now.media) }
     {
         self.media.span_holding(t, ended)
+    }
+
+    /// Whether there is a buffered range with `start <= t` and `t <= end`, where the source is ended
+    /// or not, and `until <= end`. It takes no memory.
+    pub fn is_buffered_up_to(&self, t: Ticks, until: Ticks, ended: bool) -> bool
+        ensures { result ≡ is_buffered_up_to t until (buffered_of ended self.now.media) }
+    {
+        self.media.is_buffered_up_to(t, until, ended)
     }
 
     /// The first buffered range, where the source is ended or not; `None` exactly where there is

@@ -9,6 +9,7 @@ pub mod Received
 pub mod SharedRanges
 pub mod Lookups
 pub mod LastRanges
+pub mod LastingRanges
 pub mod NormalizedRanges
 pub mod SharedEnds
 pub mod EndedRanges

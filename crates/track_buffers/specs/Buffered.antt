@@ -1,5 +1,5 @@
 -- The buffered ranges of a source buffer (Media Source Extensions, 3.1, buffered).
-use Rattle.std.specs.Prelude.{◌≡◌, ◌≢◌, ℤ, Bool, true, false, List, [], ◌∷◌, map, flat_map, Option, Some, None, option_map, option_to_list}
+use Rattle.std.specs.Prelude.{◌≡◌, ◌≢◌, ℤ, int_le, Bool, true, false, List, [], ◌∷◌, map, find, flat_map, Option, Some, None, option_map, option_to_list}
 use Rattle.std.specs.Int.{int_max}
 use Rattle.std.specs.List.{list_all}
 use Rattle.mse_base.specs.declared.span.Span.{Span}
@@ -36,6 +36,15 @@ with_end (Some e) rs = with_last_end e rs
 abbrev pub is_sought : Sought → Span → Bool
 is_sought (Holding t) = reaches t
 is_sought (EndAfter t) = has_end_after t
+
+-- there is a range, and it ends at a time or after it
+abbrev pub lasts_to : ℤ → Option Span → Bool
+lasts_to t None = false
+lasts_to t (Some s) = int_le t s.end
+
+-- a range holds a time, and it lasts to another
+abbrev pub is_buffered_up_to : ℤ → ℤ → List Span → Bool
+is_buffered_up_to t until rs = lasts_to until (find (reaches t) rs)
 
 -- the ticks by which the last range grows: from its start on and before the end, where there is a range
 abbrev pub last_up_to : ℤ → List Span → List Span

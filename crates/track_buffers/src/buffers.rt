@@ -11,7 +11,7 @@ ghost use Rattle.track_buffers.specs.Media.{is_awaiting_first, AreEndedWithin};
 ghost use Rattle.track_buffers.specs.Settings.{new_media, with_mode, with_offset, with_window_start, with_window_end, with_whole_window, with_container};
 ghost use Rattle.track_buffers.specs.Initialized.{media_tracks, init_fault, init_result};
 ghost use Rattle.track_buffers.specs.Frames.{frame_result, flush_result, media_after_reset, media_after_removal, media_after_eviction, used_in, highest_start_in, highest_end_in};
-ghost use Rattle.track_buffers.specs.Buffered.{buffered_of, IsBuffered};
+ghost use Rattle.track_buffers.specs.Buffered.{buffered_of, is_buffered_up_to, IsBuffered};
 ghost use Rattle.track_buffers.specs.Views.{track_views_of};
 
 use crate::bounds::{first_span, last_span};
@@ -21,7 +21,9 @@ use crate::frames::{TrackPlace, place_from, process_at, unset_all};
 use crate::incoming::{init_fault, segment_effect, take_tracks};
 use crate::looks::{highest_end, highest_start, track_views, used_at};
 use crate::rooms::{Ahead, reserve_ahead};
-use crate::watch::{Watch, is_watched, own_span, watch_after, watch_of, watched_span};
+use crate::watch::{
+    Watch, is_buffered_up_to, is_watched, own_span, watch_after, watch_of, watched_span,
+};
 use eviction::evict;
 use mse_base::{CodedFrame, Moment, OutOfMemory, Presentation, Ranges, Span, Ticks};
 use mse_calls::TrackViews;
@@ -453,6 +455,14 @@ impl<S: FrameStore> TrackBuffers<S> {
         ensures { result ≡ find (reaches t) (buffered_of ended self.now.media) }
     {
         watched_span(&self.tracks, &self.known.watch, t, ended)
+    }
+
+    /// Whether there is a buffered range with `start <= t` and `t <= end`, as
+    /// [`buffered`](Self::buffered) has it, and `until <= end`. It takes no memory.
+    pub fn is_buffered_up_to(&self, t: Ticks, until: Ticks, ended: bool) -> bool
+        ensures { result ≡ is_buffered_up_to t until (buffered_of ended self.now.media) }
+    {
+        is_buffered_up_to(&self.tracks, &self.known.watch, t, until, ended)
     }
 
     /// The first buffered range; `None` exactly where there is none. It takes no memory.

@@ -5,7 +5,7 @@ ghost use Rattle.std.specs.List.{AllByRecursion};
 ghost use Rattle.mse_base.specs.Meets.{meet_of_all, overlap_of_two};
 ghost use Rattle.mse_base.specs.Spans.{last_of, reaches};
 ghost use Rattle.track_store.specs.Kept.{gaps_of};
-ghost use Rattle.track_buffers.specs.Buffered.{with_common_end, ranges_in};
+ghost use Rattle.track_buffers.specs.Buffered.{lasts_to, with_common_end, ranges_in};
 
 use crate::buffered::{common_end, highest_range_end};
 use crate::sought::{Sought, span_at};
@@ -19,6 +19,16 @@ pub fn overlap_of_two(x: Option<Span>, y: Option<Span>) -> Option<Span>
     match (x, y) {
         (Some(x), Some(y)) => x.overlap(y),
         _ => None,
+    }
+}
+
+/// Whether there is a range, and it ends at a time or after it.
+pub fn lasts_to(span: &Option<Span>, t: Ticks) -> bool
+    ensures { result ≡ lasts_to t span.now }
+{
+    match span {
+        Some(span) => t <= span.end,
+        None => false,
     }
 }
 

@@ -29,5 +29,5 @@ mod watch;
 pub use buffered::{extend_last, span_up_to};
 pub use buffers::TrackBuffers;
 pub use effects::{MediaEffect, MediaFault, SourceEffect, no_effect};
-pub use holding::overlap_of_two;
+pub use holding::{lasts_to, overlap_of_two};
 pub use kinds::media_track_count;

@@ -2,15 +2,15 @@
 //! so that a frame costs about the same in a buffer of many tracks as in one of few.
 
 ghost use Rattle.std.specs.Prelude.{◌≡◌, ◌≤◌, ◌≤ℤ◌, ◌<◌, pos, List, length, find, slice_get, slice_set, IfSome};
-ghost use Rattle.std.specs.List.{AllByRecursion};
+ghost use Rattle.std.specs.List.{list_all, AllByRecursion};
 ghost use Rattle.mse_base.specs.declared.span.Span.{Span};
 ghost use Rattle.mse_base.specs.Meets.{meet_of_all};
 ghost use Rattle.mse_base.specs.Spans.{reaches, IsNormalized};
 ghost use Rattle.track_store.specs.Kept.{gaps_of};
-ghost use Rattle.track_buffers.specs.Buffered.{ranges_in, with_common_end};
+ghost use Rattle.track_buffers.specs.Buffered.{is_buffered_up_to, ranges_in, with_common_end};
 ghost use Rattle.track_buffers.specs.Watching.{IsWatchOf, end_or, is_ended_at, is_watched, least_after, least_after_end, least_with};
 
-use crate::holding::{overlap_of_two, own_span_at, span_holding};
+use crate::holding::{lasts_to, overlap_of_two, own_span_at, span_holding};
 use mse_base::{Span, Ticks};
 use track_store::{FrameStore, Tracks};
 
@@ -188,4 +188,67 @@ pub(crate) fn watched_span<S: FrameStore>(
         Some(watch) if !ended && watch.t == t => watch.span,
         _ => span_holding(tracks, t, ended),
     }
+}
+
+/// Whether a range of the track at a place holds a time, and it lasts to another.
+fn is_own_up_to<S: FrameStore>(tracks: &Tracks<S>, i: usize, t: Ticks, until: Ticks) -> bool
+    ensures { IfSome (slice_get (ranges_in S.frames S.gap tracks.now.items) i)
+        (λ r. result ≡ is_buffered_up_to t until r) }
+{
+    lasts_to(&own_span_at(tracks, i, t), until)
+}
+
+/// The same of all tracks.
+fn are_all_up_to<S: FrameStore>(tracks: &Tracks<S>, t: Ticks, until: Ticks) -> bool
+    ensures { result
+        ≡ list_all (is_buffered_up_to t until) (ranges_in S.frames S.gap tracks.now.items) }
+{
+    for i in 0..tracks.len() {
+        if !is_own_up_to(tracks, i, t, until) {
+            return false;
+        }
+    }
+    true
+}
+
+/// Whether a buffered range holds a time, and it lasts to another. This is asked at each step, and no
+/// range of one track is copied for it.
+pub(crate) fn is_buffered_up_to<S: FrameStore>(
+    tracks: &Tracks<S>,
+    watch: &Option<Watch>,
+    t: Ticks,
+    until: Ticks,
+    ended: bool,
+) -> bool
+    requires gaps_from_zero { AllByRecursion (λ g. pos 0 ≤ℤ g) (gaps_of S.gap tracks.now.items) }
+    requires watch { IfSome watch.now
+        (λ w. IsWatchOf w (ranges_in S.frames S.gap tracks.now.items)) }
+    ensures { result ≡ is_buffered_up_to t until
+        (meet_of_all (with_common_end ended (ranges_in S.frames S.gap tracks.now.items))) }
+{
+    if !ended && tracks.len() == 1 {
+        return is_own_up_to(tracks, 0, t, until);
+    }
+    is_shared_up_to(tracks, watch, t, until, ended)
+}
+
+/// The same of several tracks. There may be a watch where there are more than two.
+#[inline(never)]
+fn is_shared_up_to<S: FrameStore>(
+    tracks: &Tracks<S>,
+    watch: &Option<Watch>,
+    t: Ticks,
+    until: Ticks,
+    ended: bool,
+) -> bool
+    requires gaps_from_zero { AllByRecursion (λ g. pos 0 ≤ℤ g) (gaps_of S.gap tracks.now.items) }
+    requires watch { IfSome watch.now
+        (λ w. IsWatchOf w (ranges_in S.frames S.gap tracks.now.items)) }
+    ensures { result ≡ is_buffered_up_to t until
+        (meet_of_all (with_common_end ended (ranges_in S.frames S.gap tracks.now.items))) }
+{
+    if !ended && tracks.len() == 2 && t < until {
+        return are_all_up_to(tracks, t, until);
+    }
+    lasts_to(&watched_span(tracks, watch, t, ended), until)
 }
