@@ -4,6 +4,7 @@ ghost use Rattle.track_store.specs.State.{state_of};
 ghost use Rattle.buffer_state.specs.State.{surroundings};
 ghost use Rattle.buffer_state.specs.AllCalls.{call_at};
 ghost use Rattle.buffer_state.specs.declared.buffer_context.BufferContext.{BufferContext};
+ghost use Rattle.track_buffers.specs.Buffered.{is_buffered_up_to};
 ghost use Rattle.source_buffers.specs.State.{BufferStates, AreSlotsStanding, HasStates, all_kept_media, all_kept_running, new_buffer};
 ghost use Rattle.source_buffers.specs.Slots.{refusal_on_buffer, refusal_on_slot, removal_in_slot, removal_refusal_in_slot, removal_result};
 ghost use Rattle.source_buffers.specs.Done.{IsCallDoneInAll, IsCallDoneInSlot, IsDoneInAll, IsDoneInSlot, IsTurnDoneInAll, IsTurnDoneInSlot};
@@ -245,6 +246,15 @@ impl<S: FrameStore> SourceBuffers<S> {
         ensures { result ≡ element_span t ended active.now (all_kept_media self.now.buffers) }
     {
         element::element_span(&self.slots, active, t, ended)
+    }
+
+    /// Whether the element has a range with `start <= t` and `t <= end`, as
+    /// [`element_ranges`](Self::element_ranges) has it, and `until <= end`. It takes no memory.
+    pub fn is_buffered_up_to(&self, active: &[u32], t: Ticks, until: Ticks, ended: bool) -> bool
+        ensures { result ≡ is_buffered_up_to t until
+            (element_ranges ended active.now (all_kept_media self.now.buffers)) }
+    {
+        element::is_buffered_up_to(&self.slots, active, t, until, ended)
     }
 
     /// What views show of the buffers in the list, in order of their numbers, where the source is

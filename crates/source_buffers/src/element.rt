@@ -1,9 +1,10 @@
 //! What is buffered at one source buffer, and at the element.
 
 ghost use Rattle.std.specs.Prelude.{◌≡◌, map, slice_get, find, option_map, true, false, None, IfSome, IfOk};
+ghost use Rattle.std.specs.List.{list_all};
 ghost use Rattle.mse_base.specs.Moments.{greatest};
 ghost use Rattle.mse_base.specs.Spans.{reaches};
-ghost use Rattle.track_buffers.specs.Buffered.{buffered_of, last_end, last_ends, with_end, with_last_end};
+ghost use Rattle.track_buffers.specs.Buffered.{buffered_of, is_buffered_up_to, last_end, last_ends, with_end, with_last_end};
 ghost use Rattle.source_buffers.specs.State.{all_kept_media, in_slot, kept_media};
 ghost use Rattle.source_buffers.specs.Buffered.{active_ranges, buffered_at, element_ranges, element_span, shared_ranges, slot_ranges};
 
@@ -11,7 +12,7 @@ use crate::all::{buffer_at, slot_at, sound};
 use buffer_state::Buffer;
 use mse_base::{OutOfMemory, Ranges, Span, Ticks};
 use std::alloc::Global;
-use track_buffers::{extend_last, overlap_of_two, span_up_to};
+use track_buffers::{extend_last, lasts_to, overlap_of_two, span_up_to};
 use track_store::FrameStore;
 
 fn slot_ranges<S: FrameStore>(
@@ -297,4 +298,95 @@ pub(crate) fn element_span<S: FrameStore>(
         return span_at(slots, active, 0, t, false, &None);
     }
     shared_span(slots, active, t, ended)
+}
+
+/// Whether a range of the buffer of a number holds a time, and it lasts to another, where the source
+/// is not ended; false where no buffer is.
+fn is_own_up_to<S: FrameStore>(
+    slots: &Vec<Option<Buffer<S>>>,
+    k: usize,
+    t: Ticks,
+    until: Ticks,
+) -> bool
+    ensures { result ≡ is_buffered_up_to t until
+        (slot_ranges false (in_slot k (all_kept_media slots.now.items))) }
+{
+    match buffer_at(slots, k) {
+        Some(buffer) => buffer.is_buffered_up_to(t, until, false),
+        None => false,
+    }
+}
+
+/// The same of the active buffer at a place.
+fn is_active_up_to<S: FrameStore>(
+    slots: &Vec<Option<Buffer<S>>>,
+    active: &[u32],
+    i: usize,
+    t: Ticks,
+    until: Ticks,
+) -> bool
+    ensures { IfSome (slice_get
+        (active_ranges false active.now (all_kept_media slots.now.items)) i)
+        (λ r. result ≡ is_buffered_up_to t until r) }
+{
+    match number_at(active, i) {
+        Some(k) => is_own_up_to(slots, k as usize, t, until),
+        None => false,
+    }
+}
+
+/// The same of all active buffers.
+fn are_all_up_to<S: FrameStore>(
+    slots: &Vec<Option<Buffer<S>>>,
+    active: &[u32],
+    t: Ticks,
+    until: Ticks,
+) -> bool
+    ensures { result ≡ list_all (is_buffered_up_to t until)
+        (active_ranges false active.now (all_kept_media slots.now.items)) }
+{
+    for i in 0..active.len() {
+        if !is_active_up_to(slots, active, i, t, until) {
+            return false;
+        }
+    }
+    true
+}
+
+/// Whether a range of the element holds a time, and it lasts to another. This is asked at each step,
+/// and no range of one active buffer is copied for it.
+pub(crate) fn is_buffered_up_to<S: FrameStore>(
+    slots: &Vec<Option<Buffer<S>>>,
+    active: &[u32],
+    t: Ticks,
+    until: Ticks,
+    ended: bool,
+) -> bool
+    ensures { result ≡ is_buffered_up_to t until
+        (element_ranges ended active.now (all_kept_media slots.now.items)) }
+{
+    if !ended && active.len() == 1 {
+        return is_active_up_to(slots, active, 0, t, until);
+    }
+    is_shared_up_to(slots, active, t, until, ended)
+}
+
+/// The same of several active buffers.
+#[inline(never)]
+fn is_shared_up_to<S: FrameStore>(
+    slots: &Vec<Option<Buffer<S>>>,
+    active: &[u32],
+    t: Ticks,
+    until: Ticks,
+    ended: bool,
+) -> bool
+    ensures { result ≡ is_buffered_up_to t until
+        (element_ranges ended active.now (all_kept_media slots.now.items)) }
+{
+    if !ended && active.len() > 0 && t < until {
+        // The proof reads off this that the tracks are sound.
+        sound(slots);
+        return are_all_up_to(slots, active, t, until);
+    }
+    lasts_to(&shared_span(slots, active, t, ended), until)
 }
