@@ -5,7 +5,7 @@ use mse_base::{Moment, Span, Ticks};
 use mse_calls::Level;
 
 /// Three seconds, in ticks.
-const THREE_SECONDS: i128 = 3 * 141_120_000_000;
+pub const THREE_SECONDS: i128 = 3 * 141_120_000_000;
 
 /// Whether the range goes on for 3 seconds or more from the position, or ends at the duration.
 fn has_enough_left(range: &Span, position: Ticks, duration: Moment) -> bool

@@ -13,4 +13,4 @@ mod levels;
 
 pub use events::{events_of_change, is_first_data};
 pub use facts::Facts;
-pub use levels::level;
+pub use levels::{THREE_SECONDS, level};

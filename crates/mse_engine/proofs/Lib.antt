@@ -13,6 +13,7 @@ pub mod CallReplies
 pub mod Cores
 pub mod ReplyParts
 pub mod Quiet
+pub mod StillEnough
 pub mod BufferCallSteps
 pub mod WorkSteps
 pub mod AskedRefusals

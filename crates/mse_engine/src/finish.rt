@@ -1,6 +1,7 @@
 //! What comes of a reply of a source buffer, and the end of each step.
 
-ghost use Rattle.std.specs.Prelude.{◌≡◌, ◌≤◌, ◌+◌, ℕ, ℤ, [], ◌∷◌, not, true, if◌then◌else◌};
+ghost use Rattle.std.specs.Prelude.{◌≡◌, ◌≤◌, ◌+◌, ◌*◌, ◌+ℤ◌, ℕ, ℤ, pos, [], ◌∷◌, not, true, if◌then◌else◌};
+ghost use Rattle.mse_base.specs.Time.{tick, SECOND};
 ghost use Rattle.mse_calls.specs.Level.{has_metadata};
 ghost use Rattle.mse_calls.specs.declared.events.EventKind.TheVariants as event;
 ghost use Rattle.mse_calls.specs.declared.events.Target.TheVariants as target;
@@ -15,7 +16,9 @@ ghost use Rattle.mse_engine.specs.Standing.{IsEndOfStep, IsFinished, IsReadyIfLo
 use crate::media_source::MediaSource;
 use crate::scenes::{self, LoadBounds};
 use buffer_state::{BufferCall, Reply};
+use element_ready::THREE_SECONDS;
 use media_element::Element;
+use mse_base::{Span, Ticks};
 use mse_calls::{EndKind, Event, EventKind, FaultView, Target};
 use source_buffers::SourceBuffers;
 use track_store::FrameStore;
@@ -31,6 +34,49 @@ pub(crate) fn event(target: Target, kind: EventKind) -> Event
     Event { target, kind }
 }
 
+/// Three seconds after a time; `None` exactly where that is more than `2^110` ticks from 0.
+fn three_seconds_after(t: Ticks) -> Option<Ticks>
+    ensures { result ≡ tick (t +ℤ pos (3 * SECOND)) }
+{
+    Ticks::new(t.get() + THREE_SECONDS)
+}
+
+/// Whether the level is HAVE_ENOUGH_DATA and stays so, by a buffered range that goes on for 3 seconds
+/// or more, and no end of playback was told. This answers most steps, and no range is copied.
+fn has_still_enough<S: FrameStore>(
+    source: &MediaSource,
+    buffers: &SourceBuffers<S>,
+    element: &Element,
+) -> bool
+    ensures { result ≡ true → is_unchanged_by_settle_in (kept_scene
+        (kept_engine source.now buffers.now.buffers element.now.state)) element.now.state.player
+        ≡ true }
+{
+    let start = element.position();
+    let Some(end) = three_seconds_after(start) else {
+        return false;
+    };
+    if !element.is_unchanged_by_settle(&Some(Span { start, end }), source.state.duration()) {
+        return false;
+    }
+    scenes::is_buffered_up_to(source, buffers, start, end)
+}
+
+/// Whether the level is that of the range at the position, and no end of playback was told.
+#[inline(never)]
+fn has_level_of_range<S: FrameStore>(
+    source: &MediaSource,
+    buffers: &SourceBuffers<S>,
+    element: &Element,
+) -> bool
+    ensures { result ≡ is_unchanged_by_settle_in (kept_scene
+        (kept_engine source.now buffers.now.buffers element.now.state)) element.now.state.player }
+{
+    let duration = source.state.duration();
+    let span = scenes::span_at(source, buffers, element.position());
+    element.is_unchanged_by_settle(&span, duration)
+}
+
 /// Whether the end of a step leaves the element as it is, since it has the level of its position.
 fn is_unchanged_by_settle<S: FrameStore>(
     source: &MediaSource,
@@ -40,12 +86,13 @@ fn is_unchanged_by_settle<S: FrameStore>(
     ensures { result ≡ is_unchanged_by_settle_in (kept_scene
         (kept_engine source.now buffers.now.buffers element.now.state)) element.now.state.player }
 {
-    let duration = source.state.duration();
     if is_blank(element) {
-        return element.is_unchanged_by_settle(&None, duration);
+        return element.is_unchanged_by_settle(&None, source.state.duration());
     }
-    let span = scenes::span_at(source, buffers, element.position());
-    element.is_unchanged_by_settle(&span, duration)
+    if has_still_enough(source, buffers, element) {
+        return true;
+    }
+    has_level_of_range(source, buffers, element)
 }
 
 /// The end of each step: the level that the position has now, with its events.

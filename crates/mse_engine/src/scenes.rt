@@ -2,6 +2,7 @@
 
 ghost use Rattle.std.specs.Prelude.{◌≡◌, pos, int_lt, Bool, true, false, IfOk, OnOk};
 ghost use Rattle.mse_calls.specs.Level.{has_metadata};
+ghost use Rattle.track_buffers.specs.Buffered.{lasts_to};
 ghost use Rattle.mse_engine.specs.Scenes.{buffered_in, seekable_in, scene_with, span_at};
 ghost use Rattle.mse_engine.specs.Standing.{HasBounds, bounds_at, view_of};
 ghost use Rattle.source_buffers.specs.State.{all_kept_media};
@@ -72,6 +73,19 @@ pub(crate) fn span_at<S: FrameStore>(
 {
     let ended = source.state.ready().is_ended();
     buffers.element_span(source.state.active_numbers(), position, ended)
+}
+
+/// Whether the buffered range of the element that has a position or ends at it lasts to a time.
+pub(crate) fn is_buffered_up_to<S: FrameStore>(
+    source: &MediaSource,
+    buffers: &SourceBuffers<S>,
+    position: Ticks,
+    until: Ticks,
+) -> bool
+    ensures { result ≡ lasts_to until (span_at position (view_of source.now buffers.now.buffers)) }
+{
+    let active = source.state.active_numbers();
+    buffers.is_buffered_up_to(active, position, until, source.state.ready().is_ended())
 }
 
 /// The element's buffered ranges, where the source is ended or not.
