@@ -36,6 +36,8 @@ pub struct Feeder {
     next: Option<u64>,
     /// The serial of the frame that was given last since the seek.
     given: Option<u64>,
+    /// The place behind the frame that was given last, where the next one mostly stands.
+    near: usize,
 }
 
 impl Model for Feeder {
@@ -82,12 +84,29 @@ fn answer_with(last_serial: Option<u64>, place: usize, sync: bool) -> FeedNext
     }
 }
 
+/// The place of the frame of a serial, which is looked for at `near` first.
+fn place_near<S: FrameStore>(store: &S, near: usize, serial: u64) -> Option<usize>
+    ensures { result ≡ position (has_serial serial) (S.frames store.now) }
+{
+    // The proof reads off this that the serials ascend.
+    store.serials_ascend();
+    match store.get(near) {
+        Some(stored) if stored.serial == serial => Some(near),
+        _ => store.place_of(serial),
+    }
+}
+
 /// What the frame of a serial that was received is answered with.
-fn answer_at<S: FrameStore>(store: &S, last_serial: Option<u64>, serial: u64) -> FeedNext
+fn answer_at<S: FrameStore>(
+    store: &S,
+    last_serial: Option<u64>,
+    near: usize,
+    serial: u64,
+) -> FeedNext
     ensures { result ≡ answer_at last_serial (S.frames store.now)
         (position (has_serial serial) (S.frames store.now)) }
 {
-    let Some(place) = store.place_of(serial) else {
+    let Some(place) = place_near(store, near, serial) else {
         return FeedNext::Lost;
     };
     match store.get(place) {
@@ -104,6 +123,7 @@ impl Feeder {
         Feeder {
             next: None,
             given: None,
+            near: 0,
         }
     }
 
@@ -138,10 +158,11 @@ impl Feeder {
         if serial >= track.marks.received {
             return FeedNext::Wait;
         }
-        match answer_at(&track.store, self.given, serial) {
+        match answer_at(&track.store, self.given, self.near, serial) {
             FeedNext::Frame(place) => {
                 self.given = Some(serial);
                 self.next = Some(serial + 1);
+                self.near = place.saturating_add(1);
                 FeedNext::Frame(place)
             }
             other => other,
