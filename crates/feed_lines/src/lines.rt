@@ -1,13 +1,14 @@
 //! The lines of a track, each of which is put with one put.
 
 ghost use Rattle.std.specs.Prelude.{◌≡◌, [], ◌∷◌, ◌++◌, codes, IfOk, OnOk, OnErr, string_bytes};
-ghost use Rattle.std.specs.Fmt.{signed_decimal};
-ghost use Rattle.event_text.specs.Words.{words};
+ghost use Rattle.std.specs.Fmt.{decimal, signed_decimal};
+ghost use Rattle.event_text.specs.Words.{bool_text, words};
 ghost use Rattle.script_run.specs.Keeps.{AreFailuresTold};
 ghost use Rattle.script_run.specs.Writes.{IsWritten, IsFrontWritten};
 ghost use Rattle.feed_lines.specs.Lines.{answer_text, end_line, frame_line, none_line, size_text, wanted_line};
 
 use decoder_feed::FeedNext;
+use itoa::Buffer;
 use mse_base::Ticks;
 use mse_outside::Sink;
 use script_run::{Halt, put_bytes};
@@ -17,22 +18,54 @@ use track_store::Stored;
 /// The bytes for which a line has room when it is begun: more than most lines have.
 const LINE_ROOM: usize = 160;
 
+/// Appends what stands before a time, and the time in ticks.
+fn push_time(text: &mut String, before: &str, t: Ticks) -> Result<(), AllocError>
+    ensures { OnOk result (string_bytes text.new
+        ≡ string_bytes text.old ++ (before.now ++ signed_decimal t)) }
+{
+    text.push_str(before)?;
+    text.push_str(Buffer::new().format(t.get()))
+}
+
+/// Appends the words with which a group's line begins, up to the time.
+fn push_begin(text: &mut String, id: u32, at: Ticks) -> Result<(), AllocError>
+    ensures { OnOk result (string_bytes text.new ≡ string_bytes text.old
+        ++ (codes "feed 0 " ++ (decimal id ++ (codes " at " ++ signed_decimal at)))) }
+{
+    text.push_str("feed 0 ")?;
+    text.push_str(Buffer::new().format(id))?;
+    push_time(text, " at ", at)
+}
+
 fn none_line(alloc: Global, id: u32, at: Ticks) -> Result<String, AllocError>
     ensures { IfOk result (λ line. string_bytes line ≡ none_line id at) }
 {
-    let at = at.get();
     let mut line = String::with_capacity(alloc, LINE_ROOM)?;
-    write!(line, "feed 0 {id} at {at} none\n")?;
+    push_begin(&mut line, id, at)?;
+    line.push_str(" none\n")?;
     Ok(line)
 }
 
 fn wanted_line(alloc: Global, id: u32, at: Ticks, serial: u64) -> Result<String, AllocError>
     ensures { IfOk result (λ line. string_bytes line ≡ wanted_line id at serial) }
 {
-    let at = at.get();
     let mut line = String::with_capacity(alloc, LINE_ROOM)?;
-    write!(line, "feed 0 {id} at {at} wanted {serial}\n")?;
+    push_begin(&mut line, id, at)?;
+    line.push_str(" wanted ")?;
+    line.push_str(Buffer::new().format(serial))?;
+    line.push_str("\n")?;
     Ok(line)
+}
+
+/// The words behind the number of a frame's bytes.
+fn sync_words(sync: bool) -> &'static str
+    ensures { result.now ≡ codes " sync " ++ (bool_text sync ++ 10 ∷ []) }
+{
+    if sync {
+        " sync true\n"
+    } else {
+        " sync false\n"
+    }
 }
 
 /// Appends how many bytes a frame has, and whether it is a random access point.
@@ -41,7 +74,9 @@ fn push_size(text: &mut String, stored: &Stored) -> Result<(), AllocError>
 {
     let bytes = stored.frame.payload.len();
     let sync = stored.frame.sync;
-    write!(text, "bytes {bytes} sync {sync}\n")
+    text.push_str("bytes ")?;
+    text.push_str(Buffer::new().format(bytes))?;
+    text.push_str(sync_words(sync))
 }
 
 /// Appends when a frame is presented and decoded, and how long it lasts, in ticks.
@@ -51,10 +86,9 @@ fn push_times(text: &mut String, stored: &Stored) -> Result<(), AllocError>
         ∷ codes "dts" ∷ signed_decimal stored.now.frame.dts
         ∷ codes "dur" ∷ signed_decimal stored.now.frame.dur ∷ [])) }
 {
-    let pts = stored.frame.pts.get();
-    let dts = stored.frame.dts.get();
-    let dur = stored.frame.dur.get();
-    write!(text, "pts {pts} dts {dts} dur {dur}")
+    push_time(text, "pts ", stored.frame.pts)?;
+    push_time(text, " dts ", stored.frame.dts)?;
+    push_time(text, " dur ", stored.frame.dur)
 }
 
 /// Appends the line of a frame.
@@ -62,7 +96,9 @@ fn push_frame(text: &mut String, stored: &Stored) -> Result<(), AllocError>
     ensures { OnOk result (string_bytes text.new ≡ string_bytes text.old ++ frame_line stored.now) }
 {
     let serial = stored.serial;
-    write!(text, "frame {serial} ")?;
+    text.push_str("frame ")?;
+    text.push_str(Buffer::new().format(serial))?;
+    text.push_str(" ")?;
     push_times(text, stored)?;
     text.push_str(" ")?;
     push_size(text, stored)
@@ -93,7 +129,9 @@ fn end_line(alloc: Global, answer: FeedNext) -> Result<String, AllocError>
 {
     let answer = answer_word(answer);
     let mut line = String::with_capacity(alloc, LINE_ROOM)?;
-    write!(line, "end {answer}\n")?;
+    line.push_str("end ")?;
+    line.push_str(answer)?;
+    line.push_str("\n")?;
     Ok(line)
 }
 
