@@ -14,7 +14,7 @@ use Rattle.std.proofs.lemmas.List.Sums.{sum_by-cons, sum_by-append}
 use Rattle.std.proofs.lemmas.Option.{slice_get_read, slice_get-get_or}
 use Rattle.mse_calls.specs.declared.calls.Piece.{Piece}
 use Rattle.mse_calls.specs.declared.entry.Entry.{Entry}
-use Rattle.run_journal.specs.declared.entry_place.AnsweredCall.{AnsweredCall}
+use Rattle.run_journal.specs.AnsweredCalls.{AnsweredCall}
 use Rattle.run_journal.specs.declared.entry_place.EntryPlace.{EntryPlace}
 use Rattle.run_journal.specs.declared.places.RunEnd.{RunEnd}
 use Rattle.run_journal.specs.declared.entry_place.EntryPlace.TheVariants.{Work, Element}

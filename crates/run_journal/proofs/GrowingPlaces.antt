@@ -5,14 +5,14 @@ use Rattle.std.specs.List.{All, AllByRecursion}
 use Rattle.std.proofs.lemmas.List.{length-append}
 use Rattle.std.proofs.lemmas.List.Elements.{All-weaker, recursion_from_All}
 use Rattle.mse_calls.specs.declared.calls.Piece.{Piece}
-use Rattle.run_journal.specs.declared.entry_place.AnsweredCall.{AnsweredCall}
+use Rattle.run_journal.specs.AnsweredCalls.{AnsweredCall}
 use Rattle.run_journal.specs.declared.entry_place.EntryPlace.{EntryPlace}
 use Rattle.run_journal.specs.declared.entry_place.EntryPlace.TheVariants.{Step, Script, Append, Listener, Fired, Work, Element}
 use Rattle.run_journal.specs.EntryPlaces.{IsExtension, IsPlaceInside, entries_at, entry_at}
 use Rattle.run_journal.proofs.CountedPlaces.{slice_get-before}
 
 -- what stands in a list stands at the same place in one that begins with it
-slice_get-extended : {X : Type 0} (old new : List X) (i : ℕ) → IsExtension old new → i < length old → slice_get new i ≡ slice_get old i
+pub slice_get-extended : {X : Type 0} (old new : List X) (i : ℕ) → IsExtension old new → i < length old → slice_get new i ≡ slice_get old i
 slice_get-extended {X} old new i e lt = ap (λ (xs : List X). slice_get xs i) e.1 ∙ slice_get-before old e.0 i lt
 
 -- a place stands for the same entry over longer lists

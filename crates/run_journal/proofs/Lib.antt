@@ -1,2 +1,3 @@
 pub mod CountedPlaces
 pub mod GrowingPlaces
+pub mod KeptCalls

@@ -7,7 +7,7 @@ use Rattle.mse_calls.specs.declared.calls.Call.TheVariants.{AppendBuffer}
 use Rattle.mse_calls.specs.declared.calls.Piece.{Piece}
 use Rattle.mse_calls.specs.declared.entry.Entry.{Entry}
 use Rattle.mse_calls.specs.declared.entry.Entry.TheVariants as entry
-use Rattle.run_journal.specs.declared.entry_place.AnsweredCall.{AnsweredCall}
+use Rattle.run_journal.specs.AnsweredCalls.{AnsweredCall}
 use Rattle.run_journal.specs.declared.entry_place.EntryPlace.{EntryPlace}
 use Rattle.run_journal.specs.declared.entry_place.EntryPlace.TheVariants.{Step, Script, Append, Listener, Fired, Work, Element}
 

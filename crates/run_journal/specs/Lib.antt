@@ -2,3 +2,4 @@ pub mod JournalView
 pub mod EntryRef
 pub mod EntryPlaces
 pub mod PlacesView
+pub mod AnsweredCalls

@@ -6,6 +6,7 @@ ghost use Rattle.run_journal.specs.EntryRef.{entry_of};
 ghost use Rattle.run_journal.specs.EntryPlaces.{entry_at, count_of, IsPlaceInside, IsExtension};
 
 use crate::EntryRef;
+use crate::answered_calls::AnsweredCalls;
 use mse_calls::{Answer, Call, Entry, Event, Piece};
 
 /// Where an entry is: here, but for what would not fit into a few bytes, which is named by its index in a list.
@@ -29,29 +30,17 @@ pub(crate) enum EntryPlace {
     Element,
 }
 
-/// A call, and what it answered.
-#[derive(Debug, Drop)]
-pub(crate) struct AnsweredCall {
-    pub(crate) call: Call,
-    pub(crate) answer: Answer,
-}
-
 /// Keeps what an entry holds, in room that is there, and says where.
-pub(crate) fn keep(
-    calls: &mut Vec<AnsweredCall>,
-    pieces: &mut Vec<Piece>,
-    entry: Entry,
-) -> EntryPlace
-    requires room_for_call { vec_len calls.old < vec_capacity calls.old }
+pub(crate) fn keep(calls: &mut AnsweredCalls, pieces: &mut Vec<Piece>, entry: Entry) -> EntryPlace
+    requires room_for_call { 1 ≤ calls.old.spare }
     requires room_for_piece { vec_len pieces.old < vec_capacity pieces.old }
-    ensures entry { entry_at calls.new.items pieces.new.items result ≡ entry }
+    ensures entry { entry_at calls.new.list pieces.new.items result ≡ entry }
     ensures single { count_of result ≡ 1 }
-    ensures place_inside { IsPlaceInside calls.new.items pieces.new.items result }
-    ensures calls_extended { IsExtension calls.old.items calls.new.items }
+    ensures place_inside { IsPlaceInside calls.new.list pieces.new.items result }
+    ensures calls_extended { IsExtension calls.old.list calls.new.list }
     ensures pieces_extended { IsExtension pieces.old.items pieces.new.items }
-    ensures calls_len { vec_len calls.new ≤ vec_len calls.old + 1 }
+    ensures calls_room { calls.old.spare ≤ calls.new.spare + 1 }
     ensures pieces_len { vec_len pieces.new ≤ vec_len pieces.old + 1 }
-    ensures calls_room { vec_capacity calls.new ≡ vec_capacity calls.old }
     ensures pieces_room { vec_capacity pieces.new ≡ vec_capacity pieces.old }
 {
     match entry {
@@ -63,12 +52,12 @@ pub(crate) fn keep(
         }
         Entry::Script(call, answer) => {
             let index = calls.len();
-            calls.push_reserved(AnsweredCall { call, answer });
+            calls.push_reserved(call, answer);
             EntryPlace::Script(index)
         }
         Entry::Listener(number, call, answer) => {
             let index = calls.len();
-            calls.push_reserved(AnsweredCall { call, answer });
+            calls.push_reserved(call, answer);
             EntryPlace::Listener(number, index)
         }
         Entry::Fired(event) => EntryPlace::Fired(event),
@@ -80,21 +69,21 @@ pub(crate) fn keep(
 /// The entry at a place; of a run of steps of work, each of its entries.
 pub(crate) fn entry_ref<'a>(
     place: EntryPlace,
-    calls: &'a [AnsweredCall],
+    calls: &'a AnsweredCalls,
     pieces: &[Piece],
 ) -> EntryRef<'a>
-    requires { IsPlaceInside calls.now pieces.now place }
-    ensures { entry_of result ≡ entry_at calls.now pieces.now place }
+    requires { IsPlaceInside calls.now.list pieces.now place }
+    ensures { entry_of result ≡ entry_at calls.now.list pieces.now place }
 {
     match place {
         EntryPlace::Step(n) => EntryRef::Step(n),
         EntryPlace::Script(index) => {
-            let AnsweredCall { call, answer } = &calls[index];
+            let (call, answer) = calls.get(index);
             EntryRef::Script(call, answer)
         }
         EntryPlace::Append(k, index) => EntryRef::Append(k, pieces[index]),
         EntryPlace::Listener(number, index) => {
-            let AnsweredCall { call, answer } = &calls[index];
+            let (call, answer) = calls.get(index);
             EntryRef::Listener(number, call, answer)
         }
         EntryPlace::Fired(event) => EntryRef::Fired(event),

@@ -3,7 +3,8 @@ ghost use Rattle.mse_calls.specs.declared.entry.Entry.TheVariants.{Work};
 ghost use Rattle.run_journal.specs.EntryRef.{entry_of};
 
 use crate::EntryRef;
-use crate::entry_place::{AnsweredCall, EntryPlace, entry_ref, keep};
+use crate::answered_calls::AnsweredCalls;
+use crate::entry_place::{EntryPlace, entry_ref, keep};
 use crate::places::Places;
 use mse_base::OutOfMemory;
 use mse_calls::{Entry, Piece};
@@ -19,7 +20,7 @@ const MANY: usize = 64;
 #[derive(Debug, Drop)]
 pub struct Journal {
     places: Places,
-    calls: Vec<AnsweredCall>,
+    calls: AnsweredCalls,
     pieces: Vec<Piece>,
 }
 
@@ -31,13 +32,13 @@ impl Model for Journal {
     ghost Value = { JournalView };
 
     ghost view = { λ j. record {
-      entries = entries_at j.calls.items j.pieces.items j.places.list;
+      entries = entries_at j.calls.list j.pieces.items j.places.list;
       spare = j.places.spare;
     } };
 
     ghost invariant = { λ j. record {
-      places_inside : All (IsPlaceInside j.calls.items j.pieces.items) j.places.list;
-      calls_room : vec_len j.calls + j.places.spare ≤ vec_capacity j.calls;
+      places_inside : All (IsPlaceInside j.calls.list j.pieces.items) j.places.list;
+      calls_room : j.places.spare ≤ j.calls.spare;
       pieces_room : vec_len j.pieces + j.places.spare ≤ vec_capacity j.pieces;
     } };
 }
@@ -49,7 +50,7 @@ impl Journal {
     {
         Journal {
             places: Places::new(alloc),
-            calls: Vec::new(alloc),
+            calls: AnsweredCalls::new(alloc),
             pieces: Vec::new(alloc),
         }
     }
@@ -106,7 +107,7 @@ impl Journal {
         ensures same_room { OnErr result (self.new.spare ≡ self.old.spare) }
         ensures entries { self.new.entries ≡ self.old.entries }
     {
-        self.calls.try_reserve(n)?;
+        self.calls.reserve(n)?;
         self.pieces.try_reserve(n)?;
         self.places.reserve(n)
     }

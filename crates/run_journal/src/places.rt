@@ -3,7 +3,7 @@
 ghost use Rattle.std.specs.Prelude.{◌≡◌, ◌<◌, ◌≤◌, ◌+◌, ◌-◌, ◌^◌, ◌++◌, ◌∷◌, [], ℕ, List, Some, IsSome, min, max, All, OnOk, OnErr, IfSome, option_map, length, slice_get, slice_index_or, sum_by, vec_len, vec_capacity};
 ghost use Rattle.std.specs.Option.{option_map_or};
 ghost use Rattle.mse_calls.specs.declared.calls.Piece.{Piece};
-ghost use Rattle.run_journal.specs.declared.entry_place.AnsweredCall.{AnsweredCall};
+ghost use Rattle.run_journal.specs.AnsweredCalls.{AnsweredCall};
 ghost use Rattle.run_journal.specs.declared.entry_place.EntryPlace.TheVariants.{Work};
 ghost use Rattle.run_journal.specs.EntryPlaces.{entry_at, entries_at, count_of, IsPlaceInside};
 ghost use Rattle.run_journal.specs.PlacesView.{end_at, run_end_of, IsRunWith, AreCounted};

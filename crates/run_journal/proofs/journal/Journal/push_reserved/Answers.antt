@@ -6,22 +6,22 @@ use Rattle.run_journal.proofs.journal.Journal.push_reserved.Goals as goal
 
 pub invariant_of-self : goal.invariant_of-self
 invariant_of-self c =
-    let calls = c.self.inside.calls.items in
+    let calls = c.self.inside.calls.list in
     let pieces = c.self.inside.pieces.items in
-    let more = c.keep-place.new.calls.items in
+    let more = c.keep-place.new.calls.list in
     let others = c.keep-place.new.pieces.items in
     record {
       places_inside = c.push_reserved.ensures.place_inside more others
           (insides_stay calls more pieces others c.self.inside.places.list c.keep-place.ensures.calls_extended c.keep-place.ensures.pieces_extended c.self.invariant.places_inside) c.keep-place.ensures.place_inside;
-      calls_room = omega (arith, c.self.invariant.calls_room, c.keep-place.ensures.calls_len, c.keep-place.ensures.calls_room, c.push_reserved.ensures.spare);
+      calls_room = omega (arith, c.self.invariant.calls_room, c.keep-place.ensures.calls_room, c.push_reserved.ensures.spare);
       pieces_room = omega (arith, c.self.invariant.pieces_room, c.keep-place.ensures.pieces_len, c.keep-place.ensures.pieces_room, c.push_reserved.ensures.spare);
     }
 
 pub returns-clause-entries : goal.returns-clause-entries
 returns-clause-entries c =
-    let calls = c.self.inside.calls.items in
+    let calls = c.self.inside.calls.list in
     let pieces = c.self.inside.pieces.items in
-    let more = c.keep-place.new.calls.items in
+    let more = c.keep-place.new.calls.list in
     let others = c.keep-place.new.pieces.items in
     let list = c.self.inside.places.list in
     rw (← c.self.view_is)
