@@ -1,8 +1,10 @@
 //! A module for each crate that is tested.
 
 mod adts;
+mod boxes;
 mod containers;
 mod fragments;
-mod init;
+mod given;
+mod rows;
 mod segments;
 mod writers;

@@ -1,9 +1,10 @@
 ghost use Rattle.std.specs.Prelude.{◌≡◌, ◌+◌, ◌<◌, ◌^◌, length, None, OnOk};
 
+use super::rows::{expect, expect_at};
 use adts_stream::*;
-use mse_base::OutOfMemory;
+use mse_base::{OutOfMemory, Presentation};
 use std::alloc::Global;
-use std::test::*;
+use std::process::Abort;
 
 /// A frame of ten bytes, with 44100 samples in a second and two channels.
 const FRAME: [u8; 10] = [0xff, 0xf1, 0x50, 0x80, 0x01, 0x5f, 0xfc, 0, 0, 0];
@@ -39,43 +40,45 @@ const FOUR: [u8; 15] = [
     0xff, 0xf0, 0x50, 0x80, 0x01, 0xff, 0xff, 0, 0, 0, 0, 0, 0, 0, 0,
 ];
 
-/// What a test looks at: 1 for an initialization segment, 2 for a frame, 3 for the end of a segment, 4 for a
-/// fault; with its offset; the samples in a second, or how long a frame lasts; and how many bytes it has, or
-/// which fault it is.
-type Shown = (u8, u64, i128, usize);
-
-fn fault_number(fault: AdtsFault) -> usize {
-    match fault {
-        AdtsFault::Sync => 15,
-        AdtsFault::Rate => 16,
-        AdtsFault::Length => 17,
-    }
+/// What a stream gives, as far as a test looks at it.
+#[derive(Clone, Copy, PartialEq)]
+enum Item {
+    /// An initialization segment at this offset: how many tracks it has, and the samples in a second.
+    Init(u64, usize, u32),
+    /// A coded frame at this offset: how long it lasts, and how many bytes it has.
+    Frame(u64, i128, usize),
+    SegmentEnd,
+    Fault(u64, AdtsFault),
+    Dry,
 }
 
-fn shown_of(next: &AdtsNext) -> Shown {
+fn init_item(presentation: &Presentation, offset: u64) -> Item {
+    let tracks = presentation.tracks.as_slice();
+    let scale = tracks.iter().map(|track| track.scale).max().unwrap_or(0);
+    Item::Init(offset, tracks.len(), scale)
+}
+
+fn item_of(next: &AdtsNext) -> Item {
     match next {
-        AdtsNext::Init(presentation, offset) => {
-            let tracks = presentation.tracks.as_slice();
-            let scale = tracks.iter().map(|track| track.scale).max().unwrap_or(0);
-            (1, *offset, i128::from(scale), tracks.len())
+        AdtsNext::Init(presentation, offset) => init_item(presentation, *offset),
+        AdtsNext::Frame(frame, offset) => {
+            Item::Frame(*offset, frame.dur.get(), frame.payload.len())
         }
-        AdtsNext::Frame(frame, offset) => (2, *offset, frame.dur.get(), frame.payload.len()),
-        AdtsNext::SegmentEnd => (3, 0, 0, 0),
-        AdtsNext::Fault { fault, offset } => (4, *offset, 0, fault_number(*fault)),
-        AdtsNext::Dry => (0, 0, 0, 0),
+        AdtsNext::SegmentEnd => Item::SegmentEnd,
+        AdtsNext::Fault { fault, offset } => Item::Fault(*offset, *fault),
+        AdtsNext::Dry => Item::Dry,
     }
 }
 
 /// Takes all items that are there.
-fn take_all(stream: &mut AdtsStream, items: &mut Vec<Shown>) -> Result<(), OutOfMemory>
+fn take_all(stream: &mut AdtsStream, items: &mut Vec<Item>) -> Result<(), OutOfMemory>
     requires { stream.old.offered ≡ None }
     ensures none_offered { stream.new.offered ≡ None }
     ensures fed { OnOk result (stream.new.fed ≡ stream.old.fed) }
 {
     for _ in 0..20 {
-        let next = stream.next()?;
-        let item = shown_of(&next);
-        if item.0 == 0 {
+        let item = item_of(&stream.next()?);
+        if item == Item::Dry {
             break;
         }
         items.push(item)?;
@@ -84,7 +87,7 @@ fn take_all(stream: &mut AdtsStream, items: &mut Vec<Shown>) -> Result<(), OutOf
 }
 
 /// The items of two pieces.
-fn items_of(alloc: Global, first: &[u8], second: &[u8]) -> Result<Vec<Shown>, OutOfMemory>
+fn items_of(alloc: Global, first: &[u8], second: &[u8]) -> Result<Vec<Item>, OutOfMemory>
     requires { length first.now + length second.now < 2 ^ 62 }
 {
     let mut items = Vec::new(alloc);
@@ -96,170 +99,201 @@ fn items_of(alloc: Global, first: &[u8], second: &[u8]) -> Result<Vec<Shown>, Ou
     Ok(items)
 }
 
-/// The first item behind a tag.
-fn behind_tag(alloc: Global, tag: &[u8], rest: &[u8]) -> Result<Shown, OutOfMemory>
-    requires { length tag.now + length rest.now < 2 ^ 61 }
-{
-    let mut stream = AdtsStream::new(alloc);
-    stream.feed(tag)?;
-    stream.feed(rest)?;
-    stream.feed(&FRAME)?;
-    let next = stream.next()?;
-    Ok(shown_of(&next))
+/// Whether two pieces give these items.
+fn give(rt: &(impl Abort + AllocGlobal), first: &[u8], second: &[u8], wanted: &[Item]) -> bool {
+    assert!(rt; first.len() < 1000 && second.len() < 1000);
+    let items = items_of(rt.alloc(), first, second).expect(rt, "memory");
+    items.as_slice() == wanted
 }
 
-const TWO: [Shown; 5] = [
-    (1, 0, 44_100, 1),
-    (2, 0, 3_276_800_000, 10),
-    (3, 0, 0, 0),
-    (2, 10, 3_276_800_000, 10),
-    (3, 0, 0, 0),
+const INIT: Item = Item::Init(0, 1, 44_100);
+
+const FIRST: Item = Item::Frame(0, 3_276_800_000, 10);
+
+const TWO: [Item; 5] = [
+    INIT,
+    FIRST,
+    Item::SegmentEnd,
+    Item::Frame(10, 3_276_800_000, 10),
+    Item::SegmentEnd,
 ];
 
-const BEHIND_TAG: [Shown; 3] = [(1, 12, 44_100, 1), (2, 12, 3_276_800_000, 10), (3, 0, 0, 0)];
+const BEHIND_TAG: [Item; 3] = [
+    Item::Init(12, 1, 44_100),
+    Item::Frame(12, 3_276_800_000, 10),
+    Item::SegmentEnd,
+];
 
-/// Two frames that are cut anywhere give the items of the whole.
+/// Bytes that are cut anywhere give the items of the whole: two frames, and a tag with a frame.
+const WHOLES: [(&[u8], &[Item]); 2] = [(&FRAMES, &TWO), (&TAGGED, &BEHIND_TAG)];
+
 #[test]
-fn every_cut_gives_the_same(rt: HostRuntime) -> Result<(), Fail> {
-    for cut in 0..21 {
-        let (first, second) = FRAMES.as_slice().split_at(cut);
-        let items = items_of(rt.alloc(), first, second)?;
-        assert_eq!(rt; items.as_slice(), TWO.as_slice(), "cut at {cut}");
+fn every_cut_gives_the_same(rt: HostRuntime) {
+    for (bytes, wanted) in &WHOLES {
+        for cut in 0..bytes.len() + 1 {
+            let (first, second) = bytes.split_at(cut);
+            expect_at(&rt, cut, give(&rt, first, second, wanted));
+        }
     }
-    Ok(())
 }
 
-/// What is known of the first bytes of two frames, once their items were taken.
+/// Two pieces and their items.
+type Row = (&'static [u8], &'static [u8], &'static [Item]);
+
+const PIECES: [Row; 8] = [
+    // another rate
+    (
+        &FRAME,
+        &FASTER,
+        &[
+            INIT,
+            FIRST,
+            Item::SegmentEnd,
+            Item::Init(10, 1, 48_000),
+            Item::Frame(10, 3_010_560_000, 10),
+            Item::SegmentEnd,
+        ],
+    ),
+    // checks, and several raw data blocks
+    (
+        &PROTECTED,
+        &FOUR,
+        &[
+            INIT,
+            Item::Frame(0, 6_553_600_000, 11),
+            Item::SegmentEnd,
+            Item::Frame(11, 13_107_200_000, 15),
+            Item::SegmentEnd,
+        ],
+    ),
+    (&[0; 7], &FRAME, &[Item::Fault(0, AdtsFault::Sync)]),
+    (
+        &[0xff, 0xe1, 0x50, 0x80, 0x01, 0x5f, 0xfc],
+        &FRAME,
+        &[Item::Fault(0, AdtsFault::Sync)],
+    ),
+    (
+        &[0xff, 0xf3, 0x50, 0x80, 0x01, 0x5f, 0xfc],
+        &FRAME,
+        &[Item::Fault(0, AdtsFault::Sync)],
+    ),
+    (
+        &[0xff, 0xf1, 0x74, 0x80, 0x01, 0x5f, 0xfc],
+        &FRAME,
+        &[Item::Fault(0, AdtsFault::Rate)],
+    ),
+    (
+        &[0xff, 0xf1, 0x50, 0x80, 0x00, 0xdf, 0xfc],
+        &FRAME,
+        &[Item::Fault(0, AdtsFault::Length)],
+    ),
+    (
+        &[0xff, 0xf0, 0x50, 0x80, 0x01, 0x5f, 0xfd],
+        &FRAME,
+        &[Item::Fault(0, AdtsFault::Length)],
+    ),
+];
+
 #[test]
-fn truncated_frames(rt: HostRuntime) -> Result<(), Fail> {
+fn items_of_two_pieces(rt: HostRuntime) {
+    for (i, (first, second, wanted)) in PIECES.iter().enumerate() {
+        expect_at(&rt, i, give(&rt, first, second, wanted));
+    }
+}
+
+/// Whether a stream waits, how many bytes it holds and how many frames are ready, once the items of these bytes were
+/// taken.
+fn state_behind(rt: &(impl Abort + AllocGlobal), bytes: &[u8]) -> (bool, usize, usize) {
+    assert!(rt; bytes.len() < 1000);
+    let mut items = Vec::new(rt.alloc());
+    let mut stream = AdtsStream::new(rt.alloc());
+    stream.feed(bytes).expect(rt, "memory");
+    take_all(&mut stream, &mut items).expect(rt, "memory");
+    (stream.waiting(), stream.held_len(), stream.ready_frames())
+}
+
+/// What is known of the first bytes of two frames.
+#[test]
+fn truncated_frames(rt: HostRuntime) {
     for cut in 0..21 {
         let (first, _) = FRAMES.as_slice().split_at(cut);
-        let mut items = Vec::new(rt.alloc());
-        let mut stream = AdtsStream::new(rt.alloc());
-        stream.feed(first)?;
-        take_all(&mut stream, &mut items)?;
-        let found = (stream.waiting(), stream.held_len(), stream.ready_frames());
-        assert!(rt;
-            found == (cut % 10 < 7, cut % 10, 0),
-            "{cut} bytes: {found:?}"
-        );
+        let found = state_behind(&rt, first);
+        expect_at(&rt, cut, found == (cut % 10 < 7, cut % 10, 0));
     }
-    Ok(())
 }
 
-/// A tag and a frame that are cut anywhere.
-#[test]
-fn every_cut_of_a_tag(rt: HostRuntime) -> Result<(), Fail> {
-    for cut in 0..23 {
-        let (first, second) = TAGGED.as_slice().split_at(cut);
-        let items = items_of(rt.alloc(), first, second)?;
-        assert_eq!(rt; items.as_slice(), BEHIND_TAG.as_slice(), "cut at {cut}");
-    }
-    Ok(())
-}
-
-#[test]
-fn tags_are_passed(rt: HostRuntime) -> Result<(), Fail> {
-    let large = behind_tag(rt.alloc(), &LARGE, &[0; 129])?;
-    assert_eq!(rt; large, (1, 139, 44_100, 1));
-    let footed = behind_tag(rt.alloc(), &FOOTED, &[0; 12])?;
-    assert_eq!(rt; footed, (1, 22, 44_100, 1));
-    let old = behind_tag(rt.alloc(), b"TAG", &[0; 125])?;
-    assert_eq!(rt; old, (1, 128, 44_100, 1));
-    Ok(())
-}
-
-const CHANGED: [Shown; 6] = [
-    (1, 0, 44_100, 1),
-    (2, 0, 3_276_800_000, 10),
-    (3, 0, 0, 0),
-    (1, 10, 48_000, 1),
-    (2, 10, 3_010_560_000, 10),
-    (3, 0, 0, 0),
+/// A tag, the bytes behind it, and where the frame behind these is.
+const TAGS: [(&[u8], &[u8], u64); 3] = [
+    (&LARGE, &[0; 129], 139),
+    (&FOOTED, &[0; 12], 22),
+    (b"TAG", &[0; 125], 128),
 ];
 
-const CHECKED: [Shown; 5] = [
-    (1, 0, 44_100, 1),
-    (2, 0, 6_553_600_000, 11),
-    (3, 0, 0, 0),
-    (2, 11, 13_107_200_000, 15),
-    (3, 0, 0, 0),
-];
+/// The first item behind a tag and a frame.
+fn behind_tag(rt: &(impl Abort + AllocGlobal), tag: &[u8], rest: &[u8]) -> Item {
+    assert!(rt; tag.len() < 1000 && rest.len() < 1000);
+    let mut stream = AdtsStream::new(rt.alloc());
+    stream.feed(tag).expect(rt, "memory");
+    stream.feed(rest).expect(rt, "memory");
+    stream.feed(&FRAME).expect(rt, "memory");
+    item_of(&stream.look(0).expect(rt, "memory"))
+}
 
-/// Frames of another rate, and with checks and several raw data blocks.
 #[test]
-fn other_frames(rt: HostRuntime) -> Result<(), Fail> {
-    let items = items_of(rt.alloc(), &FRAME, &FASTER)?;
-    assert_eq!(rt; items.as_slice(), CHANGED.as_slice());
-    let items = items_of(rt.alloc(), &PROTECTED, &FOUR)?;
-    assert_eq!(rt; items.as_slice(), CHECKED.as_slice());
-    Ok(())
+fn tags_are_passed(rt: HostRuntime) {
+    for (i, (tag, rest, offset)) in TAGS.iter().enumerate() {
+        let first = behind_tag(&rt, tag, rest);
+        expect_at(&rt, i, first == Item::Init(*offset, 1, 44_100));
+    }
+}
+
+/// How many bytes are held of these two pieces.
+fn held(rt: &(impl Abort + AllocGlobal), first: &[u8], second: &[u8]) -> usize {
+    assert!(rt; first.len() < 1000 && second.len() < 1000);
+    let mut stream = AdtsStream::new(rt.alloc());
+    stream.feed(first).expect(rt, "memory");
+    stream.feed(second).expect(rt, "memory");
+    stream.held_len()
 }
 
 /// How many bytes are kept of the first bytes of a tag.
 #[test]
-fn tags_are_let_go(rt: HostRuntime) -> Result<(), Fail> {
+fn tags_are_let_go(rt: HostRuntime) {
     for cut in 0..11 {
         let (first, _) = TAG.as_slice().split_at(cut);
-        let mut stream = AdtsStream::new(rt.alloc());
-        stream.feed(first)?;
-        let held = if cut < 10 { cut } else { 0 };
-        assert!(rt; stream.held_len() == held, "held at {cut}");
+        let wanted = if cut < 10 { cut } else { 0 };
+        expect_at(&rt, cut, held(&rt, first, &[]) == wanted);
     }
-    let mut stream = AdtsStream::new(rt.alloc());
-    stream.feed(b"TA")?;
-    assert_eq!(rt; stream.held_len(), 2);
-    stream.feed(b"G")?;
-    assert_eq!(rt; stream.held_len(), 0);
-    Ok(())
-}
-
-const FAULTS: [([u8; 7], usize); 6] = [
-    ([0, 0, 0, 0, 0, 0, 0], 15),
-    ([0xff, 0xe1, 0x50, 0x80, 0x01, 0x5f, 0xfc], 15),
-    ([0xff, 0xf3, 0x50, 0x80, 0x01, 0x5f, 0xfc], 15),
-    ([0xff, 0xf1, 0x74, 0x80, 0x01, 0x5f, 0xfc], 16),
-    ([0xff, 0xf1, 0x50, 0x80, 0x00, 0xdf, 0xfc], 17),
-    ([0xff, 0xf0, 0x50, 0x80, 0x01, 0x5f, 0xfd], 17),
-];
-
-#[test]
-fn faults(rt: HostRuntime) -> Result<(), Fail> {
-    for (bytes, number) in FAULTS {
-        let items = items_of(rt.alloc(), &bytes, &FRAME)?;
-        assert_eq!(rt; items.as_slice(), [(4, 0, 0, number)].as_slice());
-    }
-    Ok(())
+    let found = (held(&rt, b"TA", &[]), held(&rt, b"TA", b"G"));
+    expect(&rt, "an ID3v1 tag", found == (2, 0));
 }
 
 /// What is offered and declined is gone, and what is accepted and looked at stays.
 #[test]
-fn offers(rt: HostRuntime) -> Result<(), Fail> {
+fn offers(rt: HostRuntime) {
     let mut stream = AdtsStream::new(rt.alloc());
-    stream.offer(&FASTER)?;
+    stream.offer(&FASTER).expect(&rt, "memory");
     stream.decline();
-    assert_eq!(rt; stream.held_len(), 0);
-    stream.offer(&FRAME)?;
+    let held = stream.held_len();
+    stream.offer(&FRAME).expect(&rt, "memory");
     stream.accept();
-    let init = stream.look(0)?;
-    assert_eq!(rt; shown_of(&init), (1, 0, 44_100, 1));
-    Ok(())
+    let init = item_of(&stream.look(0).expect(&rt, "memory"));
+    expect(&rt, "a frame", (held, init) == (0, INIT));
 }
 
 /// The presentation stays with `reset`, and goes with `forget`.
 #[test]
-fn presentation_kept(rt: HostRuntime) -> Result<(), Fail> {
+fn presentation_kept(rt: HostRuntime) {
     let mut stream = AdtsStream::new(rt.alloc());
-    stream.feed(&FRAME)?;
-    let _init = stream.next()?;
-    assert_eq!(rt; stream.ready_frames(), 1);
+    stream.feed(&FRAME).expect(&rt, "memory");
+    let _init = stream.next().expect(&rt, "memory");
+    let ready = stream.ready_frames();
     stream.reset();
-    stream.feed(&FRAME)?;
-    let frame = stream.look(0)?;
-    assert_eq!(rt; shown_of(&frame), (2, 0, 3_276_800_000, 10));
+    stream.feed(&FRAME).expect(&rt, "memory");
+    let frame = item_of(&stream.look(0).expect(&rt, "memory"));
+    expect(&rt, "kept by a reset", (ready, frame) == (1, FIRST));
     stream.forget();
-    stream.feed(&FRAME)?;
-    let init = stream.look(0)?;
-    assert_eq!(rt; shown_of(&init), (1, 0, 44_100, 1));
-    Ok(())
+    stream.feed(&FRAME).expect(&rt, "memory");
+    let init = item_of(&stream.look(0).expect(&rt, "memory"));
+    expect(&rt, "forgotten", init == INIT);
 }

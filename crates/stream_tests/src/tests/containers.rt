@@ -1,70 +1,56 @@
 ghost use Rattle.std.specs.Prelude.{◌≡◌, ◌+◌, ◌<◌, ◌^◌, length, None, OnOk};
 
-mod files;
-
-use super::init::INIT;
+use super::boxes::{INIT, MDAT, MOOF, Part, Text, made};
+use super::rows::expect_at;
 use byte_stream::*;
-use files::*;
-use mse_base::{Bytes, OutOfMemory, Phase};
+use mse_base::{Bytes, OutOfMemory, Phase, Presentation};
 use std::alloc::Global;
 use std::process::Abort;
-use std::test::*;
 
-/// A frame of ten bytes, with 44100 samples in a second and two channels.
-const FRAME: [u8; 10] = [0xff, 0xf1, 0x50, 0x80, 0x01, 0x5f, 0xfc, 0, 0, 0];
+/// The header of a frame of ten bytes, with 44100 samples in a second and two channels.
+const HEADER: &[Part] = &[Part::Bytes(&[0xff, 0xf1, 0x50, 0x80, 0x01, 0x5f, 0xfc])];
 
-/// Two of these.
-const FRAMES: [u8; 20] = [
-    0xff, 0xf1, 0x50, 0x80, 0x01, 0x5f, 0xfc, 0, 0, 0, 0xff, 0xf1, 0x50, 0x80, 0x01, 0x5f, 0xfc, 0,
-    0, 0,
-];
+/// The bytes behind the header.
+const REST: &[Part] = &[Part::Bytes(&[0, 0, 0])];
 
-/// The first 17 bytes of the two.
-const FRONT: [u8; 17] = [
-    0xff, 0xf1, 0x50, 0x80, 0x01, 0x5f, 0xfc, 0, 0, 0, 0xff, 0xf1, 0x50, 0x80, 0x01, 0x5f, 0xfc,
-];
+/// What a stream gives, as far as a test looks at it.
+#[derive(Clone, Copy, PartialEq)]
+enum Item {
+    /// An initialization segment at this offset: how many tracks it has, and the samples in a second.
+    Init(u64, usize, u32),
+    /// A coded frame at this offset: how long it lasts, and how many bytes it has.
+    Frame(u64, i128, usize),
+    SegmentEnd,
+    Fault(u64, ByteFault),
+    Dry,
+}
 
-/// What a test looks at: 1 for an initialization segment, 2 for a frame, 3 for the end of a segment, 4 for a
-/// fault; with its offset; the samples in a second, or how long a frame lasts; and how many bytes it has.
-type Shown = (u8, u64, i128, usize);
+fn init_item(presentation: &Presentation, offset: u64) -> Item {
+    let tracks = presentation.tracks.as_slice();
+    let scale = tracks.iter().map(|track| track.scale).max().unwrap_or(0);
+    Item::Init(offset, tracks.len(), scale)
+}
 
-fn shown_of(next: &Next) -> Shown {
+fn item_of(next: &Next) -> Item {
     match next {
-        Next::Init(presentation, offset) => {
-            let tracks = presentation.tracks.as_slice();
-            let scale = tracks.iter().map(|track| track.scale).max().unwrap_or(0);
-            (1, *offset, i128::from(scale), tracks.len())
-        }
-        Next::Frame(frame, offset) => (2, *offset, frame.dur.get(), frame.payload.len()),
-        Next::SegmentEnd => (3, 0, 0, 0),
-        Next::Fault { offset, .. } => (4, *offset, 0, 0),
-        Next::Dry => (0, 0, 0, 0),
+        Next::Init(presentation, offset) => init_item(presentation, *offset),
+        Next::Frame(frame, offset) => Item::Frame(*offset, frame.dur.get(), frame.payload.len()),
+        Next::SegmentEnd => Item::SegmentEnd,
+        Next::Fault { fault, offset } => Item::Fault(*offset, *fault),
+        Next::Dry => Item::Dry,
     }
 }
 
-/// Appends bytes to the string.
-fn feed(stream: &mut ByteStream, bytes: &[u8]) -> Result<(), OutOfMemory>
-    requires none_offered { stream.old.offered ≡ None }
-    requires countable { stream.old.fed + length bytes.now < 2 ^ 62 }
-    ensures none_offered { stream.new.offered ≡ None }
-    ensures fed { OnOk result (stream.new.fed ≡ stream.old.fed + length bytes.now) }
-{
-    stream.offer(bytes)?;
-    stream.accept();
-    Ok(())
-}
-
 /// Takes all items that are there.
-fn take_all(alloc: Global, stream: &mut ByteStream) -> Result<Vec<Shown>, OutOfMemory>
+fn take_all(alloc: Global, stream: &mut ByteStream) -> Result<Vec<Item>, OutOfMemory>
     requires { stream.old.offered ≡ None }
     ensures none_offered { stream.new.offered ≡ None }
     ensures fed { stream.new.fed ≡ stream.old.fed }
 {
     let mut items = Vec::new(alloc);
     'items: for _ in 0..20 {
-        let next = stream.next()?;
-        let item = shown_of(&next);
-        if item.0 == 0 {
+        let item = item_of(&stream.next()?);
+        if item == Item::Dry {
             break;
         }
         items.push(item)?;
@@ -72,165 +58,162 @@ fn take_all(alloc: Global, stream: &mut ByteStream) -> Result<Vec<Shown>, OutOfM
     Ok(items)
 }
 
-/// What is done with a stream, or asserted of it.
+/// What is done with a stream, or what it tells.
 #[derive(Clone, Copy)]
 enum StreamCall {
-    /// Appends bytes.
-    Feed(&'static [u8]),
-    /// Appends so many bytes that are told in hex.
-    Hex(&'static str, usize),
-    /// Appends bytes whose memory is shared.
-    Share(&'static [u8]),
-    /// Appends so many bytes that are told in hex, and whose memory is shared.
-    ShareHex(&'static str, usize),
-    /// Offers bytes, and declines them.
-    Decline(&'static [u8]),
+    /// Appends a text.
+    Feed(Text),
+    /// Appends a text whose memory is shared.
+    Share(Text),
+    /// Offers a text, and declines it.
+    Decline(Text),
     Reset,
     Restart(Container),
     /// The item in front or a frame behind it, which stay.
-    Look(usize, Shown),
-    /// The item in front, which is a fault and stays.
-    LookFault(ByteFault, u64),
+    Look(usize, Item),
     /// The item in front, which is taken.
-    Next(Shown),
-    /// The item in front, which is a fault and is taken.
-    NextFault(ByteFault, u64),
+    Next(Item),
     /// All items that are there, which are taken.
-    All(&'static [Shown]),
+    All(&'static [Item]),
     Phase(Phase),
     Ready(usize),
     Held(usize),
     Len(u64),
 }
 
-fn append(rt: &impl Abort, stream: &mut ByteStream, bytes: &[u8]) -> Result<(), Fail>
-    requires { stream.old.offered ≡ None }
-    ensures { stream.new.offered ≡ None }
+/// The bytes of a text that is to be appended.
+fn bytes_for(rt: &(impl Abort + AllocGlobal), stream: &ByteStream, text: Text) -> Bytes
+    ensures { stream.now.fed + length result < 2 ^ 62 }
 {
+    let bytes = made(rt, text);
     assert!(rt; stream.len() < 10_000 && bytes.len() < 10_000);
-    feed(stream, bytes)?;
-    Ok(())
+    Bytes::from_vec(rt.alloc(), bytes).expect(rt, "memory")
 }
 
-fn share(rt: &impl Abort, stream: &mut ByteStream, bytes: Bytes) -> Result<(), Fail>
-    requires { stream.old.offered ≡ None }
+fn append(rt: &impl Abort, stream: &mut ByteStream, bytes: &[u8])
+    requires none_offered { stream.old.offered ≡ None }
+    requires countable { stream.old.fed + length bytes.now < 2 ^ 62 }
     ensures { stream.new.offered ≡ None }
 {
-    assert!(rt; stream.len() < 10_000 && bytes.len() < 10_000);
-    stream.offer_bytes(bytes)?;
+    stream.offer(bytes).expect(rt, "memory");
     stream.accept();
-    Ok(())
 }
 
-fn decline(rt: &impl Abort, stream: &mut ByteStream, bytes: &[u8]) -> Result<(), Fail>
-    requires { stream.old.offered ≡ None }
+fn share(rt: &impl Abort, stream: &mut ByteStream, bytes: Bytes)
+    requires none_offered { stream.old.offered ≡ None }
+    requires countable { stream.old.fed + length bytes < 2 ^ 62 }
     ensures { stream.new.offered ≡ None }
 {
-    assert!(rt; stream.len() < 10_000 && bytes.len() < 10_000);
-    stream.offer(bytes)?;
+    stream.offer_bytes(bytes).expect(rt, "memory");
+    stream.accept();
+}
+
+fn decline(rt: &impl Abort, stream: &mut ByteStream, bytes: &[u8])
+    requires none_offered { stream.old.offered ≡ None }
+    requires countable { stream.old.fed + length bytes.now < 2 ^ 62 }
+    ensures { stream.new.offered ≡ None }
+{
+    stream.offer(bytes).expect(rt, "memory");
     stream.decline();
-    Ok(())
 }
 
-/// So many bytes that are told in hex.
-fn bytes_of_hex(rt: &(impl Abort + AllocGlobal), text: &str, len: usize) -> Result<Vec<u8>, Fail> {
-    let bytes = hex::decode(rt.alloc(), text)?;
-    assert_eq!(rt; bytes.len(), len);
-    Ok(bytes)
-}
-
-/// The item in front or a frame behind it.
-fn look(rt: &impl Abort, stream: &ByteStream, i: usize) -> Result<Next, Fail>
-    requires { stream.now.offered ≡ None }
-{
-    assert!(rt; i == 0 || i < stream.ready_frames());
-    Ok(stream.look(i)?)
-}
-
-fn expect_fault(rt: &impl Abort, next: &Next, want: ByteFault, at: u64) {
-    match next {
-        Next::Fault { fault, offset } => assert_eq!(rt; (*fault, *offset), (want, at)),
-        _ => assert!(rt; false, "{next:?}"),
-    }
-}
-
-fn expect_all(
-    rt: &(impl Abort + AllocGlobal),
-    stream: &mut ByteStream,
-    want: &[Shown],
-) -> Result<(), Fail>
-    requires { stream.old.offered ≡ None }
-    ensures { stream.new.offered ≡ None }
-{
-    let items = take_all(rt.alloc(), stream)?;
-    assert_eq!(rt; items.as_slice(), want);
-    Ok(())
-}
-
-fn take(
-    rt: &(impl Abort + AllocGlobal),
-    stream: &mut ByteStream,
-    step: StreamCall,
-) -> Result<(), Fail>
+/// Appends or declines a text, or begins anew; whether the step is such a call.
+fn acts(rt: &(impl Abort + AllocGlobal), stream: &mut ByteStream, step: StreamCall) -> bool
     requires { stream.old.offered ≡ None }
     ensures { stream.new.offered ≡ None }
 {
     match step {
-        StreamCall::Feed(bytes) => append(rt, stream, bytes)?,
-        StreamCall::Hex(text, len) => append(rt, stream, bytes_of_hex(rt, text, len)?.as_slice())?,
-        StreamCall::Share(bytes) => share(rt, stream, Bytes::copy_of(rt.alloc(), bytes)?)?,
-        StreamCall::ShareHex(text, len) => {
-            let bytes = bytes_of_hex(rt, text, len)?;
-            share(rt, stream, Bytes::from_vec(rt.alloc(), bytes)?)?;
+        StreamCall::Feed(text) => {
+            let bytes = bytes_for(rt, stream, text);
+            append(rt, stream, bytes.as_slice());
         }
-        StreamCall::Decline(bytes) => decline(rt, stream, bytes)?,
+        StreamCall::Share(text) => {
+            let bytes = bytes_for(rt, stream, text);
+            share(rt, stream, bytes);
+        }
+        StreamCall::Decline(text) => {
+            let bytes = bytes_for(rt, stream, text);
+            decline(rt, stream, bytes.as_slice());
+        }
         StreamCall::Reset => stream.reset(),
         StreamCall::Restart(container) => stream.restart(container),
-        StreamCall::Look(i, want) => assert_eq!(rt; shown_of(&look(rt, stream, i)?), want),
-        StreamCall::LookFault(want, at) => expect_fault(rt, &look(rt, stream, 0)?, want, at),
-        StreamCall::Next(want) => assert_eq!(rt; shown_of(&stream.next()?), want),
-        StreamCall::NextFault(want, at) => expect_fault(rt, &stream.next()?, want, at),
-        StreamCall::All(want) => expect_all(rt, stream, want)?,
-        StreamCall::Phase(want) => assert_eq!(rt; stream.phase(), want),
-        StreamCall::Ready(want) => assert_eq!(rt; stream.ready_frames(), want),
-        StreamCall::Held(want) => assert_eq!(rt; stream.held_len(), want),
-        StreamCall::Len(want) => assert_eq!(rt; stream.len(), want),
+        _ => return false,
     }
-    Ok(())
+    true
+}
+
+/// The item in front or a frame behind it.
+fn look(rt: &impl Abort, stream: &ByteStream, i: usize) -> Item
+    requires { stream.now.offered ≡ None }
+{
+    assert!(rt; i == 0 || i < stream.ready_frames());
+    item_of(&stream.look(i).expect(rt, "memory"))
+}
+
+/// Whether the stream tells what is wanted.
+fn tells(rt: &impl Abort, stream: &ByteStream, step: StreamCall) -> bool
+    requires { stream.now.offered ≡ None }
+{
+    match step {
+        StreamCall::Look(i, want) => look(rt, stream, i) == want,
+        StreamCall::Phase(want) => stream.phase() == want,
+        StreamCall::Ready(want) => stream.ready_frames() == want,
+        StreamCall::Held(want) => stream.held_len() == want,
+        StreamCall::Len(want) => stream.len() == want,
+        _ => false,
+    }
+}
+
+/// Takes items; whether they, or what the stream tells, are what is wanted.
+fn takes(rt: &(impl Abort + AllocGlobal), stream: &mut ByteStream, step: StreamCall) -> bool
+    requires { stream.old.offered ≡ None }
+    ensures { stream.new.offered ≡ None }
+{
+    match step {
+        StreamCall::Next(want) => item_of(&stream.next().expect(rt, "memory")) == want,
+        StreamCall::All(want) => {
+            let items = take_all(rt.alloc(), stream).expect(rt, "memory");
+            items.as_slice() == want
+        }
+        _ => tells(rt, stream, step),
+    }
+}
+
+/// Takes a step; whether that comes of it which is wanted.
+fn does(rt: &(impl Abort + AllocGlobal), stream: &mut ByteStream, step: StreamCall) -> bool
+    requires { stream.old.offered ≡ None }
+    ensures { stream.new.offered ≡ None }
+{
+    acts(rt, stream, step) || takes(rt, stream, step)
 }
 
 /// Takes steps from a new stream on.
-fn play(
-    rt: &(impl Abort + AllocGlobal),
-    container: Container,
-    steps: &[StreamCall],
-) -> Result<(), Fail> {
+fn play(rt: &(impl Abort + AllocGlobal), container: Container, steps: &[StreamCall]) {
     let mut stream = ByteStream::new(rt.alloc(), container);
-    'steps: for step in steps {
-        take(rt, &mut stream, *step)?;
+    'steps: for (i, step) in steps.iter().enumerate() {
+        expect_at(rt, i, does(rt, &mut stream, *step));
     }
-    Ok(())
 }
 
-const INIT_SHOWN: Shown = (1, 24, 90_000, 1);
+const VIDEO: Item = Item::Init(24, 1, 90_000);
 
-const LAST_SHOWN: Shown = (2, 747, 4_704_000_000, 4);
+const LAST: Item = Item::Frame(747, 4_704_000_000, 4);
 
 const SEGMENTS: [StreamCall; 13] = [
-    StreamCall::Hex(INIT, 595),
+    StreamCall::Feed(&[INIT]),
     StreamCall::Phase(Phase::InInit),
-    StreamCall::Look(0, INIT_SHOWN),
-    StreamCall::Next(INIT_SHOWN),
-    StreamCall::Hex(THREE_FRAMES, 156),
+    StreamCall::Look(0, VIDEO),
+    StreamCall::Next(VIDEO),
+    StreamCall::Feed(&[MOOF, MDAT]),
     StreamCall::Ready(3),
-    StreamCall::Look(2, LAST_SHOWN),
+    StreamCall::Look(2, LAST),
     StreamCall::Phase(Phase::InMedia),
     StreamCall::Held(156),
     StreamCall::All(&[
-        (2, 739, 4_704_000_000, 4),
-        (2, 743, 4_704_000_000, 4),
-        LAST_SHOWN,
-        (3, 0, 0, 0),
+        Item::Frame(739, 4_704_000_000, 4),
+        Item::Frame(743, 4_704_000_000, 4),
+        LAST,
+        Item::SegmentEnd,
     ]),
     StreamCall::Phase(Phase::Waiting),
     StreamCall::Held(0),
@@ -239,159 +222,162 @@ const SEGMENTS: [StreamCall; 13] = [
 
 /// A file of one track and three frames of 3000 units at 90000.
 #[test]
-fn a_file_of_segments(rt: HostRuntime) -> Result<(), Fail> {
-    play(&rt, Container::Mp4, &SEGMENTS)
+fn a_file_of_segments(rt: HostRuntime) {
+    play(&rt, Container::Mp4, &SEGMENTS);
 }
 
-const ADTS_INIT: Shown = (1, 0, 44_100, 1);
+const SOUND: Item = Item::Init(0, 1, 44_100);
 
-const ADTS_FRAME: Shown = (2, 0, 3_276_800_000, 10);
+const FRAME: Item = Item::Frame(0, 3_276_800_000, 10);
 
-const ONE_FRAME: [Shown; 3] = [ADTS_INIT, ADTS_FRAME, (3, 0, 0, 0)];
+const ONE_FRAME: &[Item] = &[SOUND, FRAME, Item::SegmentEnd];
 
-const TWO: [Shown; 5] = [
-    ADTS_INIT,
-    ADTS_FRAME,
-    (3, 0, 0, 0),
-    (2, 10, 3_276_800_000, 10),
-    (3, 0, 0, 0),
-];
+const SECOND: Item = Item::Frame(10, 3_276_800_000, 10);
 
 const TWO_FRAMES: [StreamCall; 11] = [
-    StreamCall::Feed(&FRONT),
+    StreamCall::Feed(&[HEADER, REST, HEADER]),
     StreamCall::Phase(Phase::Waiting),
-    StreamCall::All(&ONE_FRAME),
+    StreamCall::All(ONE_FRAME),
     StreamCall::Phase(Phase::InMedia),
     StreamCall::Held(7),
     StreamCall::Ready(0),
-    StreamCall::Feed(&[0; 3]),
+    StreamCall::Feed(&[REST]),
     StreamCall::Ready(1),
-    StreamCall::All(&[(2, 10, 3_276_800_000, 10), (3, 0, 0, 0)]),
+    StreamCall::All(&[SECOND, Item::SegmentEnd]),
     StreamCall::Held(0),
     StreamCall::Len(20),
 ];
 
 /// Two ADTS frames of 1024 samples, the second of which comes in two pieces.
 #[test]
-fn two_frames(rt: HostRuntime) -> Result<(), Fail> {
-    play(&rt, Container::Adts, &TWO_FRAMES)
+fn two_frames(rt: HostRuntime) {
+    play(&rt, Container::Adts, &TWO_FRAMES);
 }
 
+const FREE_OF_SIZE_ZERO: &[Part] = &[Part::Box(0, b"free", &[])];
+
 const BEGUN_ANEW: [StreamCall; 15] = [
-    StreamCall::Feed(b"\0\0\0\0free"),
-    StreamCall::LookFault(ByteFault::Segments(StreamFault::SizeZero), 0),
+    StreamCall::Feed(&[FREE_OF_SIZE_ZERO]),
+    StreamCall::Look(
+        0,
+        Item::Fault(0, ByteFault::Segments(StreamFault::SizeZero)),
+    ),
     StreamCall::Restart(Container::Adts),
-    StreamCall::Feed(&FRAME),
-    StreamCall::Next(ADTS_INIT),
+    StreamCall::Feed(&[HEADER, REST]),
+    StreamCall::Next(SOUND),
     StreamCall::Reset,
     StreamCall::Len(0),
     StreamCall::Held(0),
-    StreamCall::Feed(&FRAME),
-    StreamCall::Next(ADTS_FRAME),
+    StreamCall::Feed(&[HEADER, REST]),
+    StreamCall::Next(FRAME),
     StreamCall::Restart(Container::Adts),
-    StreamCall::Feed(&FRAME),
-    StreamCall::Next(ADTS_INIT),
+    StreamCall::Feed(&[HEADER, REST]),
+    StreamCall::Next(SOUND),
     StreamCall::Restart(Container::Mp4),
     StreamCall::Phase(Phase::Waiting),
 ];
 
 /// The presentation stays with `reset`, and goes with `restart`, which takes another container.
 #[test]
-fn begun_anew(rt: HostRuntime) -> Result<(), Fail> {
-    play(&rt, Container::Mp4, &BEGUN_ANEW)
+fn begun_anew(rt: HostRuntime) {
+    play(&rt, Container::Mp4, &BEGUN_ANEW);
 }
 
+const ZEROS: &[Part] = &[Part::Bytes(&[0; 7])];
+
 const OFFERS: [StreamCall; 7] = [
-    StreamCall::Decline(&[0; 7]),
+    StreamCall::Decline(&[ZEROS]),
     StreamCall::Len(0),
     StreamCall::Held(0),
-    StreamCall::Feed(&FRAME),
-    StreamCall::All(&ONE_FRAME),
-    StreamCall::Feed(&[0; 7]),
-    StreamCall::NextFault(ByteFault::Frames(AdtsFault::Sync), 10),
+    StreamCall::Feed(&[HEADER, REST]),
+    StreamCall::All(ONE_FRAME),
+    StreamCall::Feed(&[ZEROS]),
+    StreamCall::Next(Item::Fault(10, ByteFault::Frames(AdtsFault::Sync))),
 ];
 
 /// What is offered and declined is gone.
 #[test]
-fn offers(rt: HostRuntime) -> Result<(), Fail> {
-    play(&rt, Container::Adts, &OFFERS)
+fn offers(rt: HostRuntime) {
+    play(&rt, Container::Adts, &OFFERS);
 }
+
+const SHARED_FRAMES: [StreamCall; 2] = [
+    StreamCall::Share(&[HEADER, REST, HEADER, REST]),
+    StreamCall::All(&[SOUND, FRAME, Item::SegmentEnd, SECOND, Item::SegmentEnd]),
+];
+
+const SHARED_SEGMENTS: [StreamCall; 2] = [StreamCall::Share(&[INIT]), StreamCall::Next(VIDEO)];
 
 /// Bytes whose memory is shared give what they give when they are copied.
 #[test]
-fn shared_bytes(rt: HostRuntime) -> Result<(), Fail> {
-    let frames = [StreamCall::Share(&FRAMES), StreamCall::All(&TWO)];
-    play(&rt, Container::Adts, &frames)?;
-    let segments = [
-        StreamCall::ShareHex(INIT, 595),
-        StreamCall::Next(INIT_SHOWN),
-    ];
-    play(&rt, Container::Mp4, &segments)
+fn shared_bytes(rt: HostRuntime) {
+    play(&rt, Container::Adts, &SHARED_FRAMES);
+    play(&rt, Container::Mp4, &SHARED_SEGMENTS);
 }
 
 /// Takes all items that are there, and puts the payloads of coded frames one after the other.
-fn take_payloads(stream: &mut ByteStream, payloads: &mut Vec<u8>) -> Result<(), OutOfMemory>
+fn take_payloads(rt: &impl Abort, stream: &mut ByteStream, payloads: &mut Vec<u8>)
     requires { stream.old.offered ≡ None }
     ensures { stream.new.offered ≡ None }
 {
     'items: for _ in 0..20 {
-        match stream.next()? {
-            Next::Frame(frame, _) => payloads.extend_from_slice(frame.payload.as_slice())?,
+        match stream.next().expect(rt, "memory") {
+            Next::Frame(frame, _) => {
+                payloads
+                    .extend_from_slice(frame.payload.as_slice())
+                    .expect(rt, "memory");
+            }
             Next::Dry => break,
             _ => (),
         }
     }
-    Ok(())
 }
 
 /// The payloads of the coded frames of a string that is appended in pieces of so many bytes.
 fn payloads_by(
-    alloc: Global,
+    rt: &(impl Abort + AllocGlobal),
     container: Container,
     bytes: &[u8],
     size: usize,
-) -> Result<Vec<u8>, OutOfMemory> {
-    let mut stream = ByteStream::new(alloc, container);
-    let mut payloads = Vec::new(alloc);
+) -> Vec<u8> {
+    let mut stream = ByteStream::new(rt.alloc(), container);
+    let mut payloads = Vec::new(rt.alloc());
     let mut rest = bytes;
     'pieces: for _ in 0..1000 {
         let (piece, behind) = rest.split_at(size.min(rest.len()));
         if piece.is_empty() || piece.len() > 10_000 || stream.len() > 10_000 {
             break;
         }
-        feed(&mut stream, piece)?;
-        take_payloads(&mut stream, &mut payloads)?;
+        append(rt, &mut stream, piece);
+        take_payloads(rt, &mut stream, &mut payloads);
         rest = behind;
     }
-    Ok(payloads)
+    payloads
 }
 
-/// Asserts the payloads of the coded frames of a string that is appended in pieces of so many bytes.
-fn expect_payloads(
-    rt: &(impl Abort + AllocGlobal),
-    container: Container,
-    bytes: &[u8],
-    size: usize,
-    want: &[u8],
-) -> Result<(), Fail> {
-    let payloads = payloads_by(rt.alloc(), container, bytes, size)?;
-    assert_eq!(rt; payloads.as_slice(), want, "by {size}");
-    Ok(())
-}
+/// A text, its length, by how many bytes it is appended, and where the payloads of its coded frames begin, which stand
+/// up to its end.
+const PAYLOADS: [(Container, Text, usize, &[usize], usize); 2] = [
+    (Container::Mp4, &[INIT, MOOF, MDAT], 751, &[1, 7, 751], 739),
+    (
+        Container::Adts,
+        &[HEADER, REST, HEADER, REST],
+        20,
+        &[1, 7],
+        0,
+    ),
+];
 
 /// The payloads are the bytes of the string, whatever pieces it comes in.
 #[test]
-fn payloads_by_pieces(rt: HostRuntime) -> Result<(), Fail> {
-    let mut file = hex::decode(rt.alloc(), INIT)?;
-    file.extend_from_slice(hex::decode(rt.alloc(), THREE_FRAMES)?.as_slice())?;
-    assert_eq!(rt; file.len(), 751);
-    let (_, data) = file.as_slice().split_at(739);
-    assert_eq!(rt; data, [1u8, 2, 3, 4, 5, 6, 7, 8, 9, 10, 11, 12].as_slice());
-    for size in [1, 7, 751] {
-        expect_payloads(&rt, Container::Mp4, file.as_slice(), size, data)?;
+fn payloads_by_pieces(rt: HostRuntime) {
+    for (container, text, len, sizes, from) in &PAYLOADS {
+        let file = made(&rt, text);
+        expect_at(&rt, *len, file.len() == *len && *from <= *len);
+        let (_, wanted) = file.as_slice().split_at((*from).min(file.len()));
+        for size in *sizes {
+            let payloads = payloads_by(&rt, *container, file.as_slice(), *size);
+            expect_at(&rt, *size, payloads.as_slice() == wanted);
+        }
     }
-    for size in [1, 7] {
-        expect_payloads(&rt, Container::Adts, &FRAMES, size, &FRAMES)?;
-    }
-    Ok(())
 }

@@ -4,6 +4,8 @@ ghost use Rattle.mse_base.specs.Presentation.{IsReadable};
 
 mod moofs;
 
+use super::boxes::{MOOF, Part, TWO_TRACKS, made};
+use super::rows::{expect, expect_at};
 use bmff_fragment::*;
 use moofs::*;
 use mse_base::{Kind, Moment, Presentation, Ticks, TrackInfo, TrackList};
@@ -59,14 +61,6 @@ fn presentation(alloc: Global, first: TrackInfo, second: TrackInfo) -> Result<Pr
     })
 }
 
-/// A presentation of this track, and of one of kind Other with the number 7.
-fn alone(alloc: Global, media: TrackInfo) -> Result<Presentation, Fail>
-    requires { IsReadable media }
-    ensures { IfOk result (λ p. AllByRecursion IsReadable p.tracks) }
-{
-    presentation(alloc, media, track(7, Kind::Other, 1, 0))
-}
-
 fn parts_of(slot: &Slot) -> Wanted {
     (
         slot.track_id,
@@ -79,55 +73,134 @@ fn parts_of(slot: &Slot) -> Wanted {
     )
 }
 
-fn check(
-    rt: &impl Abort,
-    alloc: Global,
+/// Whether a movie fragment has these slots.
+fn has_slots(
+    rt: &(impl Abort + AllocGlobal),
     with: &Presentation,
-    moof: &str,
+    moof: &[Part],
     wanted: &[Wanted],
-) -> Result<(), Fail>
+) -> bool
     requires { AllByRecursion IsReadable with.now.tracks }
 {
-    let bytes = hex::decode(alloc, moof)?;
-    let plan = read_moof(alloc, bytes.as_slice(), with)?;
+    let bytes = made(rt, &[moof]);
+    let plan = read_moof(rt.alloc(), bytes.as_slice(), with).expect(rt, "a movie fragment");
     let slots = plan.slots.as_slice();
-    assert_eq!(rt; slots.len(), wanted.len(), "{moof}");
     for (slot, want) in slots.iter().zip(wanted.iter()) {
-        assert_eq!(rt; parts_of(slot), *want);
+        if parts_of(slot) != *want {
+            return false;
+        }
+    }
+    slots.len() == wanted.len()
+}
+
+/// The kind, the scale and the media shift of track 1.
+type First = (Kind, u32, u32);
+
+/// The number, the kind and the scale of the other track.
+type Second = (u32, Kind, u32);
+
+/// A track that no movie fragment here has.
+const UNUSED: Second = (7, Kind::Other, 1);
+
+/// The second track beside a track of the scale 1000.
+const OTHER: Second = (2, Kind::Other, 1000);
+
+/// A presentation of two tracks.
+fn presentation_of(alloc: Global, first: &First, second: &Second) -> Result<Presentation, Fail>
+    ensures { IfOk result (λ p. AllByRecursion IsReadable p.tracks) }
+{
+    let (kind, scale, shift) = *first;
+    let (number, other_kind, other_scale) = *second;
+    if scale == 0 || other_scale == 0 {
+        return Err(Fail::new("a scale is 0"));
+    }
+    presentation(
+        alloc,
+        track(1, kind, scale, i64::from(shift)),
+        track(number, other_kind, other_scale, 0),
+    )
+}
+
+/// A name, the two tracks, a movie fragment and its slots.
+type Case = (
+    &'static str,
+    First,
+    Second,
+    &'static [Part],
+    &'static [Wanted],
+);
+
+/// Whether the movie fragment of a case has its slots.
+fn are_slots(rt: &(impl Abort + AllocGlobal), case: &Case) -> Result<bool, Fail> {
+    let (_, first, second, moof, wanted) = case;
+    let with = presentation_of(rt.alloc(), first, second)?;
+    Ok(has_slots(rt, &with, moof, wanted))
+}
+
+/// Asserts the slots of each movie fragment.
+fn expect_slots(rt: &(impl Abort + AllocGlobal), cases: &[Case]) -> Result<(), Fail> {
+    for case in cases {
+        expect(rt, case.0, are_slots(rt, case)?);
     }
     Ok(())
 }
 
+const ONE_TRACK: [Case; 4] = [
+    (
+        "three frames",
+        (Kind::Video, 90000, 0),
+        UNUSED,
+        MOOF,
+        &[
+            (1, 0, 0, 4704000000, true, 144, 148),
+            (1, 4704000000, 4704000000, 4704000000, false, 148, 152),
+            (1, 9408000000, 9408000000, 4704000000, false, 152, 156),
+        ],
+    ),
+    (
+        "frames of units that are no whole ticks",
+        (Kind::Video, 44101, 0),
+        UNUSED,
+        FIVE_FRAMES,
+        &[
+            (1, 0, 0, 3199927439, true, 176, 180),
+            (1, 3199927439, 3199927439, 3199927439, false, 180, 184),
+            (1, 6399854878, 6399854878, 3199927439, false, 184, 188),
+            (1, 9599782317, 9599782317, 3199927440, false, 188, 192),
+            (1, 12799709757, 12799709757, 3199927439, false, 192, 196),
+        ],
+    ),
+    (
+        "a frame far away",
+        (Kind::Video, 10000000, 0),
+        UNUSED,
+        FAR_AWAY,
+        &[(
+            1,
+            249390876672000000000,
+            249390876672000000000,
+            5644800000,
+            true,
+            112,
+            116,
+        )],
+    ),
+    (
+        "frames behind an edit of the media",
+        (Kind::Video, 90000, 3000),
+        UNUSED,
+        SHIFTED,
+        &[
+            (1, 0, -4704000000, 4704000000, true, 144, 148),
+            (1, 4704000000, 0, 4704000000, false, 148, 152),
+            (1, 9408000000, 4704000000, 4704000000, false, 152, 156),
+        ],
+    ),
+];
+
 #[test]
 fn frames_of_one_track(rt: HostRuntime) -> Result<(), Fail> {
-    let alloc = rt.alloc();
-    let with = alone(alloc, track(1, Kind::Video, 90000, 0))?;
-    let wanted = [
-        (1, 0, 0, 4704000000, true, 144, 148),
-        (1, 4704000000, 4704000000, 4704000000, false, 148, 152),
-        (1, 9408000000, 9408000000, 4704000000, false, 152, 156),
-    ];
-    check(&rt, alloc, &with, THREE_FRAMES, &wanted)?;
-    let with = alone(alloc, track(1, Kind::Video, 44101, 0))?;
-    let wanted = [
-        (1, 0, 0, 3199927439, true, 176, 180),
-        (1, 3199927439, 3199927439, 3199927439, false, 180, 184),
-        (1, 6399854878, 6399854878, 3199927439, false, 184, 188),
-        (1, 9599782317, 9599782317, 3199927440, false, 188, 192),
-        (1, 12799709757, 12799709757, 3199927439, false, 192, 196),
-    ];
-    check(&rt, alloc, &with, FIVE_FRAMES, &wanted)?;
-    let with = alone(alloc, track(1, Kind::Video, 10000000, 0))?;
-    let start = 249390876672000000000;
-    let wanted = [(1, start, start, 5644800000, true, 112, 116)];
-    check(&rt, alloc, &with, FAR_AWAY, &wanted)?;
-    let with = alone(alloc, track(1, Kind::Video, 90000, 3000))?;
-    let wanted = [
-        (1, 0, -4704000000, 4704000000, true, 144, 148),
-        (1, 4704000000, 0, 4704000000, false, 148, 152),
-        (1, 9408000000, 4704000000, 4704000000, false, 152, 156),
-    ];
-    check(&rt, alloc, &with, SHIFTED, &wanted)
+    expect_slots(&rt, &ONE_TRACK)
 }
 
 /// What no initialization segment gives: more than 64 tracks, all of one number, and no duration.
@@ -143,218 +216,215 @@ fn too_many_tracks(alloc: Global, media: TrackInfo) -> Result<Presentation, Fail
     })
 }
 
+const OF_NO_PRESENTATION: [Wanted; 3] = [
+    (1, 0, 0, 4704000000, true, 144, 148),
+    (1, 4704000000, 4704000000, 4704000000, false, 148, 152),
+    (1, 9408000000, 9408000000, 4704000000, false, 152, 156),
+];
+
 #[test]
 fn frames_of_no_presentation(rt: HostRuntime) -> Result<(), Fail> {
-    let alloc = rt.alloc();
-    let with = too_many_tracks(alloc, track(1, Kind::Video, 90000, 0))?;
-    let wanted = [
-        (1, 0, 0, 4704000000, true, 144, 148),
-        (1, 4704000000, 4704000000, 4704000000, false, 148, 152),
-        (1, 9408000000, 9408000000, 4704000000, false, 152, 156),
-    ];
-    check(&rt, alloc, &with, THREE_FRAMES, &wanted)
+    let with = too_many_tracks(rt.alloc(), track(1, Kind::Video, 90000, 0))?;
+    expect(
+        &rt,
+        "too many tracks",
+        has_slots(&rt, &with, MOOF, &OF_NO_PRESENTATION),
+    );
+    Ok(())
 }
+
+const BEHIND_AN_EMPTY_EDIT: [Wanted; 3] = [
+    (1, 70560000000, 70560000000, 4704000000, true, 144, 148),
+    (1, 75264000000, 75264000000, 4704000000, false, 148, 152),
+    (1, 79968000000, 79968000000, 4704000000, false, 152, 156),
+];
 
 /// An empty edit of half a second, and then the media from its start.
 #[test]
 fn frames_behind_an_empty_edit(rt: HostRuntime) -> Result<(), Fail> {
-    let alloc = rt.alloc();
     let wait = Ticks::new(70560000000).ok_or("a time")?;
-    let with = alone(alloc, waiting_track(wait))?;
-    let wanted = [
-        (1, 70560000000, 70560000000, 4704000000, true, 144, 148),
-        (1, 75264000000, 75264000000, 4704000000, false, 148, 152),
-        (1, 79968000000, 79968000000, 4704000000, false, 152, 156),
-    ];
-    check(&rt, alloc, &with, THREE_FRAMES, &wanted)
+    let with = presentation(rt.alloc(), waiting_track(wait), track(7, Kind::Other, 1, 0))?;
+    expect(
+        &rt,
+        "an empty edit",
+        has_slots(&rt, &with, MOOF, &BEHIND_AN_EMPTY_EDIT),
+    );
+    Ok(())
 }
 
-#[test]
-fn frames_in_another_order(rt: HostRuntime) -> Result<(), Fail> {
-    let alloc = rt.alloc();
-    let with = alone(alloc, track(1, Kind::Video, 1000, 0))?;
-    let unit = 14112000000;
-    let wanted = [
-        (1, 0, 0, unit, true, 192, 196),
-        (1, 42336000000, 14112000000, unit, false, 196, 200),
-        (1, 14112000000, 28224000000, unit, false, 200, 204),
-        (1, 28224000000, 42336000000, unit, false, 204, 208),
-        (1, 56448000000, 56448000000, unit, true, 208, 212),
-        (1, 70560000000, 70560000000, unit, false, 212, 216),
-    ];
-    check(&rt, alloc, &with, REORDERED, &wanted)?;
-    let wanted = [(1, 42336000000, 42336000000, unit, true, 112, 116)];
-    check(&rt, alloc, &with, ONE_LATER_FRAME, &wanted)?;
-    let second = 141120000000;
-    let wanted = [
-        (1, 564480000000, 564480000000, second, true, 128, 132),
-        (1, 705600000000, 705600000000, second, false, 132, 136),
-    ];
-    check(&rt, alloc, &with, TWO_LONG_FRAMES, &wanted)
-}
-
-#[test]
-fn frames_of_audio_and_of_two_tracks(rt: HostRuntime) -> Result<(), Fail> {
-    let alloc = rt.alloc();
-    let with = alone(alloc, track(1, Kind::Audio, 48000, 0))?;
-    let frame = 3010560000;
-    let wanted = [
-        (1, 0, 0, frame, true, 128, 132),
-        (1, frame, frame, frame, true, 132, 136),
-    ];
-    check(&rt, alloc, &with, TWO_SYNC_FRAMES, &wanted)?;
-    let wanted = [(1, 1505280000, 1505280000, frame, true, 112, 116)];
-    check(&rt, alloc, &with, ONE_AUDIO_FRAME, &wanted)?;
-    let video = track(1, Kind::Video, 90000, 0);
-    let with = presentation(alloc, video, track(2, Kind::Audio, 48000, 0))?;
-    let wanted = [
-        (1, 0, 0, 4704000000, true, 288, 292),
-        (1, 4704000000, 4704000000, 4704000000, false, 292, 296),
-        (1, 9408000000, 9408000000, 4704000000, false, 296, 300),
-        (2, 0, 0, frame, true, 300, 303),
-        (2, 3010560000, 3010560000, frame, true, 303, 306),
-        (2, 6021120000, 6021120000, frame, true, 306, 309),
-        (2, 9031680000, 9031680000, frame, true, 309, 312),
-        (2, 12042240000, 12042240000, frame, true, 312, 315),
-    ];
-    check(&rt, alloc, &with, TWO_TRACKS, &wanted)
-}
-
-/// At the scale 1000 a unit is 141120000 ticks.
-#[test]
-fn flags_offsets_and_places(rt: HostRuntime) -> Result<(), Fail> {
-    let alloc = rt.alloc();
-    let video = track(1, Kind::Video, 1000, 0);
-    let with = presentation(alloc, video, track(2, Kind::Other, 1000, 0))?;
-    let wanted = [
-        (1, 606105784670400000, 0, 987840000, true, 256, 259),
-        (1, 606105785658240000, 987840000, 987840000, false, 259, 262),
-    ];
-    check(&rt, alloc, &with, UNSIGNED_OFFSETS, &wanted)?;
-    let wanted = [
-        (1, -141120000, 0, 987840000, true, 256, 259),
-        (1, 846720000, 987840000, 987840000, false, 259, 262),
-    ];
-    check(&rt, alloc, &with, SIGNED_OFFSETS, &wanted)?;
-    let ten = 1411200000;
-    let wanted = [
-        (1, 14112000000, 14112000000, ten, false, 0, 5),
-        (1, 15523200000, 15523200000, ten, false, 5, 10),
-        (1, 14112000000, 14112000000, ten, false, 10, 15),
-        (1, 28224000000, 28224000000, ten, false, 135, 140),
-        (1, 29635200000, 29635200000, ten, false, 140, 145),
-        (1, 31046400000, 31046400000, ten, false, 100, 105),
-        (1, 0, 0, ten, false, 0, 5),
-    ];
-    check(&rt, alloc, &with, BASES, &wanted)?;
-    let wanted = [(1, 0, 0, ten, false, 0, 5)];
-    check(&rt, alloc, &with, EMPTY_RUN_BEFORE, &wanted)
-}
-
-/// Movie fragments and their first fault, in the order of reading; many have another fault that would come
-/// later.
-const FAULTS: [(&str, MoofFault); 20] = [
-    ("0000000c6d6f6f6600000000", MoofFault::Size),
-    ("000000136d6f6f660000000b74726166000000", MoofFault::Size),
+const ANOTHER_ORDER: [Case; 3] = [
     (
-        "000000206d6f6f66000000187472616600000010746668640000000100000009",
-        MoofFault::Size,
+        "reordered frames",
+        (Kind::Video, 1000, 0),
+        UNUSED,
+        REORDERED,
+        &[
+            (1, 0, 0, 14112000000, true, 192, 196),
+            (1, 42336000000, 14112000000, 14112000000, false, 196, 200),
+            (1, 14112000000, 28224000000, 14112000000, false, 200, 204),
+            (1, 28224000000, 42336000000, 14112000000, false, 204, 208),
+            (1, 56448000000, 56448000000, 14112000000, true, 208, 212),
+            (1, 70560000000, 70560000000, 14112000000, false, 212, 216),
+        ],
     ),
     (
-        "\
-        000000306d6f6f6600000028747261660000001074666864000200000000000100000010746664740100\
-        000000000000",
-        MoofFault::Size,
+        "one later frame",
+        (Kind::Video, 1000, 0),
+        UNUSED,
+        ONE_LATER_FRAME,
+        &[(1, 42336000000, 42336000000, 14112000000, true, 112, 116)],
     ),
     (
-        "\
-        000000446d6f6f660000003c747261660000001074666864000200000000000100000014746664740100\
-        00000000000000000000000000107472756e0000000100000000",
-        MoofFault::Size,
-    ),
-    (
-        "\
-        0000004c6d6f6f6600000044747261660000001074666864000200000000000100000014746664740100\
-        00000000000000000000000000187472756e0000020100000002ffffffff00000004",
-        MoofFault::Size,
-    ),
-    ("000000086d6f6f66", MoofFault::NoTraf),
-    (
-        "000000186d6f6f66000000106d6668640000000000000001",
-        MoofFault::NoTraf,
-    ),
-    ("000000106d6f6f660000000874726166", MoofFault::NoTfhd),
-    (
-        "000000246d6f6f660000001c747261660000001474666474010000000000000000000000",
-        MoofFault::NoTfhd,
-    ),
-    (
-        "000000206d6f6f66000000187472616600000010746668640002000000000001",
-        MoofFault::NoTfdt,
-    ),
-    (
-        "000000286d6f6f660000002074726166000000187466686400000001000000090000000000000000",
-        MoofFault::BaseOffset,
-    ),
-    (
-        "000000206d6f6f66000000187472616600000010746668640002000000000009",
-        MoofFault::UnknownTrack,
-    ),
-    (FOUR_BILLION, MoofFault::TooManySamples),
-    (ONE_MORE, MoofFault::TooManySamples),
-    (
-        "\
-        000000446d6f6f660000003c747261660000001074666864000200000000000100000014746664740100\
-        00000000000000000000000000107472756e00000200ffffffff",
-        MoofFault::TooManySamples,
-    ),
-    (ONE_MORE_BEHIND, MoofFault::TooManySamples),
-    (
-        "\
-        000000486d6f6f6600000040747261660000001074666864000200000000000100000014746664740100\
-        00000000000000000000000000147472756e0000000100000001ffffffff",
-        MoofFault::Place,
-    ),
-    (
-        "\
-        000000486d6f6f6600000040747261660000001074666864000200000000000200000014746664740100\
-        00000000000000000000000000147472756e0000000100000001ffffffff",
-        MoofFault::Place,
-    ),
-    (
-        "\
-        000000586d6f6f6600000050747261660000001074666864000200000000000100000014746664740100\
-        00000000000000000000000000147472756e0000000100000000fffffff8000000107472756e00000000\
-        00000001",
-        MoofFault::Place,
+        "two long frames",
+        (Kind::Video, 1000, 0),
+        UNUSED,
+        TWO_LONG_FRAMES,
+        &[
+            (1, 564480000000, 564480000000, 141120000000, true, 128, 132),
+            (1, 705600000000, 705600000000, 141120000000, false, 132, 136),
+        ],
     ),
 ];
 
 #[test]
+fn frames_in_another_order(rt: HostRuntime) -> Result<(), Fail> {
+    expect_slots(&rt, &ANOTHER_ORDER)
+}
+
+const AUDIO: [Case; 3] = [
+    (
+        "two sync frames",
+        (Kind::Audio, 48000, 0),
+        UNUSED,
+        TWO_SYNC_FRAMES,
+        &[
+            (1, 0, 0, 3010560000, true, 128, 132),
+            (1, 3010560000, 3010560000, 3010560000, true, 132, 136),
+        ],
+    ),
+    (
+        "one audio frame",
+        (Kind::Audio, 48000, 0),
+        UNUSED,
+        ONE_AUDIO_FRAME,
+        &[(1, 1505280000, 1505280000, 3010560000, true, 112, 116)],
+    ),
+    (
+        "video and audio",
+        (Kind::Video, 90000, 0),
+        (2, Kind::Audio, 48000),
+        TWO_TRACKS,
+        &[
+            (1, 0, 0, 4704000000, true, 288, 292),
+            (1, 4704000000, 4704000000, 4704000000, false, 292, 296),
+            (1, 9408000000, 9408000000, 4704000000, false, 296, 300),
+            (2, 0, 0, 3010560000, true, 300, 303),
+            (2, 3010560000, 3010560000, 3010560000, true, 303, 306),
+            (2, 6021120000, 6021120000, 3010560000, true, 306, 309),
+            (2, 9031680000, 9031680000, 3010560000, true, 309, 312),
+            (2, 12042240000, 12042240000, 3010560000, true, 312, 315),
+        ],
+    ),
+];
+
+#[test]
+fn frames_of_audio_and_of_two_tracks(rt: HostRuntime) -> Result<(), Fail> {
+    expect_slots(&rt, &AUDIO)
+}
+
+/// At the scale 1000 a unit is 141120000 ticks.
+const FLAGS_OFFSETS_AND_PLACES: [Case; 4] = [
+    (
+        "unsigned offsets",
+        (Kind::Video, 1000, 0),
+        OTHER,
+        UNSIGNED_OFFSETS,
+        &[
+            (1, 606105784670400000, 0, 987840000, true, 256, 259),
+            (1, 606105785658240000, 987840000, 987840000, false, 259, 262),
+        ],
+    ),
+    (
+        "signed offsets",
+        (Kind::Video, 1000, 0),
+        OTHER,
+        SIGNED_OFFSETS,
+        &[
+            (1, -141120000, 0, 987840000, true, 256, 259),
+            (1, 846720000, 987840000, 987840000, false, 259, 262),
+        ],
+    ),
+    (
+        "places from each base",
+        (Kind::Video, 1000, 0),
+        OTHER,
+        BASES,
+        &[
+            (1, 14112000000, 14112000000, 1411200000, false, 0, 5),
+            (1, 15523200000, 15523200000, 1411200000, false, 5, 10),
+            (1, 14112000000, 14112000000, 1411200000, false, 10, 15),
+            (1, 28224000000, 28224000000, 1411200000, false, 135, 140),
+            (1, 29635200000, 29635200000, 1411200000, false, 140, 145),
+            (1, 31046400000, 31046400000, 1411200000, false, 100, 105),
+            (1, 0, 0, 1411200000, false, 0, 5),
+        ],
+    ),
+    (
+        "an empty run before the data",
+        (Kind::Video, 1000, 0),
+        OTHER,
+        EMPTY_RUN_BEFORE,
+        &[(1, 0, 0, 1411200000, false, 0, 5)],
+    ),
+];
+
+#[test]
+fn flags_offsets_and_places(rt: HostRuntime) -> Result<(), Fail> {
+    expect_slots(&rt, &FLAGS_OFFSETS_AND_PLACES)
+}
+
+/// Whether this is the first fault of a movie fragment.
+fn has_fault(
+    rt: &(impl Abort + AllocGlobal),
+    with: &Presentation,
+    moof: &[Part],
+    fault: MoofFault,
+) -> bool
+    requires { AllByRecursion IsReadable with.now.tracks }
+{
+    let bytes = made(rt, &[moof]);
+    match read_moof(rt.alloc(), bytes.as_slice(), with) {
+        Err(MoofError::Fault(found)) => found == fault,
+        _ => false,
+    }
+}
+
+#[test]
 fn first_fault(rt: HostRuntime) -> Result<(), Fail> {
-    let alloc = rt.alloc();
-    let video = track(1, Kind::Video, 1000, 0);
-    let with = presentation(alloc, video, track(2, Kind::Other, 1000, 0))?;
-    for (moof, fault) in FAULTS {
-        let bytes = hex::decode(alloc, moof)?;
-        let found = read_moof(alloc, bytes.as_slice(), &with).err();
-        assert_eq!(rt; found, Some(MoofError::Fault(fault)), "{moof}");
+    let with = presentation_of(rt.alloc(), &(Kind::Video, 1000, 0), &OTHER)?;
+    for (i, (moof, fault)) in FAULTS.iter().enumerate() {
+        expect_at(&rt, i, has_fault(&rt, &with, moof, *fault));
     }
     Ok(())
 }
 
+const LAST_OF_MOST: Wanted = (
+    1,
+    1479749040000000,
+    1479749040000000,
+    1411200000,
+    false,
+    5242875,
+    5242880,
+);
+
 #[test]
 fn most_samples(rt: HostRuntime) -> Result<(), Fail> {
-    let alloc = rt.alloc();
-    let video = track(1, Kind::Video, 1000, 0);
-    let with = presentation(alloc, video, track(2, Kind::Other, 1000, 0))?;
-    let bytes = hex::decode(alloc, MOST_SAMPLES)?;
-    let plan = read_moof(alloc, bytes.as_slice(), &with)?;
-    let slots = plan.slots.into_vec();
-    assert_eq!(rt; slots.len(), 1 << 20);
-    let last = slots.as_slice().last().map(parts_of);
-    let start = 1479749040000000;
-    let wanted = (1, start, start, 1411200000, false, 5242875, 5242880);
-    assert_eq!(rt; last, Some(wanted));
+    let with = presentation_of(rt.alloc(), &(Kind::Video, 1000, 0), &OTHER)?;
+    let bytes = made(&rt, &[MOST_SAMPLES]);
+    let plan = read_moof(rt.alloc(), bytes.as_slice(), &with)?;
+    let slots = plan.slots.as_slice();
+    let last = slots.last().map(parts_of);
+    assert!(rt; slots.len() == 1 << 20 && last == Some(LAST_OF_MOST));
     Ok(())
 }

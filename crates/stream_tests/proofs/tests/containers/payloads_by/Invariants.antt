@@ -2,4 +2,4 @@ use Rattle.std.proofs.Common.{◌≡◌, None}
 use Rattle.stream_tests.proofs.tests.containers.payloads_by.Given as goal
 
 abbrev pub invariant-pieces : goal.invariant-pieces
-invariant-pieces l = l.stream.offered ≡ None
+invariant-pieces g l = l.stream.offered ≡ None

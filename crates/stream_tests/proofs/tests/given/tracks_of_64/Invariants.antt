@@ -2,7 +2,7 @@ use Rattle.std.proofs.Common.{◌≡◌, ◌≤◌, length}
 use Rattle.std.specs.List.{AllByRecursion}
 use Rattle.bmff_write.specs.declared.track_out.TrackOut.{TrackOut}
 use Rattle.bmff_write.specs.Tracks.{IsTrackOut, AreNumbersDistinct}
-use Rattle.stream_tests.proofs.tests.writers.given.tracks_of_64.Given as goal
+use Rattle.stream_tests.proofs.tests.given.tracks_of_64.Given as goal
 
 -- the tracks so far, whose numbers are not above their count
 abbrev pub invariant-loop-i : goal.invariant-loop-i

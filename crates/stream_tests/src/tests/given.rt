@@ -4,17 +4,16 @@ ghost use Rattle.std.specs.Prelude.{◌≡◌, ◌≢◌, ◌*◌, ◌≤◌, �
 ghost use Rattle.mse_base.specs.declared.track.Kind.TheVariants.{Other};
 ghost use Rattle.bmff_write.specs.Tracks.{IsTrackOut, AreTracksOut, AreEdits, payload_len};
 
-use bmff_write::{SampleOut, TrackOut, TrafOut};
+use bmff_write::{SampleOut, TrackOut, TrafOut, write_init};
 use md5::{Digest, Md5};
 use mse_base::{Bytes, Kind, OutOfMemory, OwnedList};
 use std::alloc::Global;
 use std::process::Abort;
 
-/// Bytes of a length and a digest.
-pub(super) fn expect(rt: &impl Abort, bytes: &[u8], len: usize, digest: u128) {
-    assert_eq!(rt; bytes.len(), len);
+/// Whether bytes have a length and a digest.
+pub(super) fn are(bytes: &[u8], len: usize, digest: u128) -> bool {
     let found = u128::from_be_bytes(Md5::digest(bytes));
-    assert_eq!(rt; found, digest);
+    (bytes.len(), found) == (len, digest)
 }
 
 /// A track without edits.
@@ -44,27 +43,27 @@ pub(super) fn plain_track(
 
 /// A track of the codec `avc1` with edits.
 pub(super) fn edited_track(
-    alloc: Global,
+    rt: &(impl Abort + AllocGlobal),
     id: u32,
     kind: Kind,
     scale: u32,
     edits: &[(u32, i32)],
-) -> Result<TrackOut, OutOfMemory>
+) -> TrackOut
     requires numbered { 1 ≤ id }
     requires below { id ≤ 2 ^ 32 - 2 }
     requires positive { 1 ≤ scale }
     requires media { kind ≢ Other }
     requires edits { AreEdits edits.now }
-    ensures { IfOk result IsTrackOut }
+    ensures { IsTrackOut result }
 {
-    let edits = Vec::from_slice(alloc, edits)?;
-    Ok(TrackOut {
+    let edits = Vec::from_slice(rt.alloc(), edits).expect(rt, "memory");
+    TrackOut {
         id,
         kind,
         scale,
         codec: *b"avc1",
         edits: OwnedList::from_vec(edits),
-    })
+    }
 }
 
 /// 64 audio tracks, numbered from 1 on.
@@ -81,54 +80,53 @@ pub(super) fn tracks_of_64(alloc: Global) -> Result<Vec<TrackOut>, OutOfMemory>
 
 /// Samples of `len` bytes of value 0 each, by their durations, whether they are sync samples, and their offsets.
 fn samples_of(
-    alloc: Global,
+    rt: &(impl Abort + AllocGlobal),
     len: usize,
     rows: &[(u32, bool, i32)],
-) -> Result<OwnedList<SampleOut>, OutOfMemory>
+) -> OwnedList<SampleOut>
     requires { len ≤ 4 }
-    ensures count { IfOk result (λ samples. length samples ≡ length rows.now) }
-    ensures payload { IfOk result (λ samples. payload_len samples ≤ 4 * length rows.now) }
+    ensures count { length result ≡ length rows.now }
+    ensures payload { payload_len result ≤ 4 * length rows.now }
 {
-    let mut samples = Vec::new(alloc);
+    let mut samples = Vec::new(rt.alloc());
     for row in rows {
-        let payload = Bytes::copy_of(alloc, &[0; 4][..len])?;
+        let payload = Bytes::copy_of(rt.alloc(), &[0; 4][..len]).expect(rt, "memory");
         let sample = SampleOut {
             duration: row.0,
             sync: row.1,
             offset: row.2,
             payload,
         };
-        samples.push(sample)?;
+        samples.push(sample).expect(rt, "memory");
     }
-    Ok(OwnedList::from_vec(samples))
+    OwnedList::from_vec(samples)
 }
 
 /// A track fragment of a few such samples.
 pub(super) fn one_traf(
-    alloc: Global,
+    rt: &(impl Abort + AllocGlobal),
     id: u32,
     decode: u64,
     len: usize,
     rows: &[(u32, bool, i32)],
-) -> Result<TrafOut, OutOfMemory>
+) -> TrafOut
     requires payload { len ≤ 4 }
     requires few { length rows.now ≤ 10 }
-    ensures count { IfOk result (λ t. length t.samples ≤ 10) }
-    ensures payload { IfOk result (λ t. payload_len t.samples ≤ 40) }
+    ensures count { length result.samples ≤ 10 }
+    ensures payload { payload_len result.samples ≤ 40 }
 {
-    let samples = samples_of(alloc, len, rows)?;
-    Ok(TrafOut {
+    let samples = samples_of(rt, len, rows);
+    TrafOut {
         id,
         decode,
         samples,
-    })
+    }
 }
 
-/// Parts of a file, one after the other.
-pub(super) fn whole(alloc: Global, parts: &[&[u8]]) -> Result<Vec<u8>, OutOfMemory> {
-    let mut bytes = Vec::new(alloc);
-    for part in parts {
-        bytes.extend_from_slice(part)?;
-    }
-    Ok(bytes)
+/// Appends an initialization segment of these tracks.
+pub(super) fn put_init(rt: &(impl Abort + AllocGlobal), out: &mut Vec<u8>, tracks: &[TrackOut])
+    requires { AreTracksOut tracks.now }
+{
+    let init = write_init(rt.alloc(), tracks).expect(rt, "memory");
+    out.extend_from_slice(init.as_slice()).expect(rt, "memory");
 }

@@ -3,7 +3,7 @@ use Rattle.std.specs.List.{AllByRecursion}
 use Rattle.bmff_write.specs.declared.track_out.TrackOut.{TrackOut}
 use Rattle.bmff_write.specs.Tracks.{IsTrackOut, AreNumbersDistinct}
 use Rattle.bmff_write.proofs.MovieLaws.{all_push}
-use Rattle.stream_tests.proofs.tests.writers.given.tracks_of_64.Goals as goal
+use Rattle.stream_tests.proofs.tests.given.tracks_of_64.Goals as goal
 
 all_weaker : (P Q : TrackOut → Type 0) (ts : List TrackOut) → ((t : TrackOut) → P t → Q t) → AllByRecursion P ts → AllByRecursion Q ts
 all_weaker P Q [] so all = tt

@@ -1,5 +1,0 @@
-use Rattle.std.proofs.Common.{◌≡◌, None}
-use Rattle.stream_tests.proofs.tests.segments.fault_of.Given as goal
-
-abbrev pub invariant-items : goal.invariant-items
-invariant-items l = l.stream.offered ≡ None
