@@ -6,4 +6,5 @@ mod fragments_made;
 mod input_pieces;
 mod made_boxes;
 mod movie_boxes;
+mod rows;
 mod type_texts;

@@ -1,8 +1,8 @@
+use super::rows::{expect, expect_at};
 use Field::*;
 use OptionalField::*;
 use bmff_boxes::*;
 use std::process::Abort;
-use std::test::*;
 
 /// The first bytes of a box, and what its header tells.
 const HEADERS: [(&[u8], Header); 14] = [
@@ -79,8 +79,8 @@ const HEADERS: [(&[u8], Header); 14] = [
 
 #[test]
 fn headers(rt: HostRuntime) {
-    for (bytes, want) in &HEADERS {
-        assert!(rt; header(bytes) == *want, "{bytes:?}");
+    for (i, (bytes, want)) in HEADERS.iter().enumerate() {
+        expect_at(&rt, i, header(bytes) == *want);
     }
 }
 
@@ -101,32 +101,34 @@ const FIRST_BOXES: [([u8; 4], Option<&[u8]>); 2] = [(*b"aaaa", Some(&[1, 2])), (
 const FRONTS: [(usize, bool); 4] = [(30, true), (29, false), (21, false), (0, true)];
 
 #[test]
-fn first_boxes(rt: HostRuntime) -> Result<(), Fail> {
-    let row = open(&ROW).ok_or("whole boxes")?;
-    for (kind, want) in &FIRST_BOXES {
-        assert!(rt; row.first(*kind) == *want, "{kind:?}");
+fn first_boxes(rt: HostRuntime) {
+    let row = open(&ROW).expect(&rt, "whole boxes");
+    for (i, (kind, want)) in FIRST_BOXES.iter().enumerate() {
+        expect_at(&rt, i, row.first(*kind) == *want);
     }
-    Ok(())
+}
+
+/// Whether a row of boxes has these boxes, and then no other.
+fn has_boxes(rt: &impl Abort, row: &[u8], boxes: &[([u8; 4], &[u8])]) -> bool {
+    let mut row = open(row).expect(rt, "whole boxes");
+    for (kind, payload) in boxes {
+        match row.next() {
+            Some(found) if found.kind == *kind && found.payload == *payload => (),
+            _ => return false,
+        }
+    }
+    row.next().is_none()
 }
 
 #[test]
-fn rows_of_boxes(rt: HostRuntime) -> Result<(), Fail> {
-    let mut row = open(&ROW).ok_or("whole boxes")?;
-    for (kind, payload) in &BOXES {
-        let found = row.next().ok_or("a box is left")?;
-        assert!(rt;
-            found.kind == *kind && found.payload == *payload,
-            "{kind:?}"
-        );
-    }
-    assert!(rt; row.next().is_none());
-    Ok(())
+fn rows_of_boxes(rt: HostRuntime) {
+    expect(&rt, "three boxes", has_boxes(&rt, &ROW, &BOXES));
 }
 
 #[test]
 fn fronts_of_rows(rt: HostRuntime) {
     for (len, whole) in &FRONTS {
-        assert!(rt; open(front(&ROW, *len)).is_some() == *whole, "{len} bytes");
+        expect_at(&rt, *len, open(front(&ROW, *len)).is_some() == *whole);
     }
 }
 
@@ -154,7 +156,7 @@ fn walks_over_boxes(rt: HostRuntime) {
     for (len, words) in &WALKS {
         let mut walk = children(front(&ROW, *len));
         for want in *words {
-            assert!(rt; word_of(&walk.next()) == *want, "{want} of {len} bytes");
+            expect(&rt, want, word_of(&walk.next()) == *want);
         }
     }
 }
@@ -308,7 +310,7 @@ const FIELDS: [FieldRow; 33] = [
 #[test]
 fn fields(rt: HostRuntime) {
     for (name, field, payload, len, want) in &FIELDS {
-        assert!(rt; read_field(field, front(payload, *len)) == *want, "{name}");
+        expect(&rt, name, read_field(field, front(payload, *len)) == *want);
     }
 }
 
@@ -319,7 +321,7 @@ const HANDLERS: [(usize, Option<[u8; 4]>); 2] = [(12, Some(*b"soun")), (11, None
 fn handlers(rt: HostRuntime) {
     for (len, want) in &HANDLERS {
         let payload = front(b"\0\0\0\0\0\0\0\0soun", *len);
-        assert!(rt; hdlr_handler(payload) == *want, "{len} bytes");
+        expect_at(&rt, *len, hdlr_handler(payload) == *want);
     }
 }
 
@@ -439,10 +441,8 @@ const OPTIONAL_FIELDS: [OptionalRow; 21] = [
 #[test]
 fn optional_fields(rt: HostRuntime) {
     for (name, field, payload, len, want) in &OPTIONAL_FIELDS {
-        assert!(rt;
-            read_optional_field(field, front(payload, *len)) == *want,
-            "{name}"
-        );
+        let found = read_optional_field(field, front(payload, *len));
+        expect(&rt, name, found == *want);
     }
 }
 
@@ -497,11 +497,8 @@ const EDIT_LISTS: [(&[u8], usize, u32, Option<EditEntry>); 6] = [
 
 #[test]
 fn edit_lists(rt: HostRuntime) {
-    for (edits, len, i, want) in &EDIT_LISTS {
-        assert!(rt;
-            elst_entry(front(edits, *len), *i) == *want,
-            "{i} of {len} bytes"
-        );
+    for (row, (edits, len, i, want)) in EDIT_LISTS.iter().enumerate() {
+        expect_at(&rt, row, elst_entry(front(edits, *len), *i) == *want);
     }
 }
 
@@ -579,11 +576,8 @@ const SAMPLES: [(&[u8], usize, u32, Option<TrunSample>); 8] = [
 
 #[test]
 fn runs_of_samples(rt: HostRuntime) {
-    for (run, len, i, want) in &SAMPLES {
-        assert!(rt;
-            trun_sample(front(run, *len), *i) == *want,
-            "{i} of {len} bytes"
-        );
+    for (row, (run, len, i, want)) in SAMPLES.iter().enumerate() {
+        expect_at(&rt, row, trun_sample(front(run, *len), *i) == *want);
     }
 }
 
@@ -607,21 +601,17 @@ fn has_fields(rt: &impl Abort, run: &[u8], count: u32) -> bool {
     };
     for i in 0..count {
         let alone = trun_sample(run, i);
-        assert!(rt;
-            alone == Some(run_sample(run, &fields, i)),
-            "sample {i} of {count}"
-        );
+        let sample = run_sample(run, &fields, i);
+        expect(rt, "as it is read alone", alone == Some(sample));
     }
     true
 }
 
 #[test]
 fn fields_of_runs(rt: HostRuntime) {
-    for (run, len, count, want) in &RUNS {
-        assert!(rt;
-            has_fields(&rt, front(run, *len), *count) == *want,
-            "{count} of {len} bytes"
-        );
+    for (i, (run, len, count, want)) in RUNS.iter().enumerate() {
+        let found = has_fields(&rt, front(run, *len), *count);
+        expect_at(&rt, i, found == *want);
     }
 }
 
@@ -637,6 +627,6 @@ const PAYLOADS: [(&[u8], usize, Option<&[u8]>); 5] = [
 #[test]
 fn payloads(rt: HostRuntime) {
     for (bytes, len, want) in &PAYLOADS {
-        assert!(rt; payload(front(bytes, *len)) == *want, "{len} bytes");
+        expect_at(&rt, *len, payload(front(bytes, *len)) == *want);
     }
 }

@@ -1,9 +1,8 @@
 use super::made_boxes::{Boxes, Part};
+use super::rows::{expect, expect_at};
 use bmff_init::InitFault;
 use sample_tables::*;
-use std::alloc::Global;
 use std::process::Abort;
-use std::test::*;
 
 /// A full box: its type, its version, and the numbers of four bytes behind its flags.
 type Table = ([u8; 4], u8, &'static [u32]);
@@ -55,27 +54,27 @@ const SAMPLE_ENTRY: [Part<'static>; 8] = [
 const FILE_END: [Part<'static>; 5] = [Part::Close; 5];
 
 /// Appends a table as a box.
-fn put_table(boxes: &mut Boxes, table: &Table) -> Result<(), Fail> {
+fn put_table(rt: &impl Abort, boxes: &mut Boxes, table: &Table) {
     let (kind, version, numbers) = table;
-    boxes.open(kind)?;
-    boxes.push(&[*version, 0, 0, 0])?;
+    boxes.open(rt, kind);
+    boxes.push(rt, &[*version, 0, 0, 0]);
     for number in *numbers {
-        boxes.push(&number.to_be_bytes())?;
+        boxes.push(rt, &number.to_be_bytes());
     }
-    boxes.close()
+    boxes.close(rt);
 }
 
 /// A classic file of 32 bytes of media and a movie box with one track of these tables.
-fn classic(alloc: Global, handler: &[u8; 4], tables: &[Table]) -> Result<Vec<u8>, Fail> {
-    let mut boxes = Boxes::new(alloc);
-    boxes.put(&FILE_FRONT)?;
-    boxes.push(handler)?;
-    boxes.put(&SAMPLE_ENTRY)?;
+fn classic(rt: &(impl Abort + AllocGlobal), handler: &[u8; 4], tables: &[Table]) -> Vec<u8> {
+    let mut boxes = Boxes::new(rt.alloc());
+    boxes.put(rt, &FILE_FRONT);
+    boxes.push(rt, handler);
+    boxes.put(rt, &SAMPLE_ENTRY);
     for table in tables {
-        put_table(&mut boxes, table)?;
+        put_table(rt, &mut boxes, table);
     }
-    boxes.put(&FILE_END)?;
-    Ok(boxes.into_bytes())
+    boxes.put(rt, &FILE_END);
+    boxes.into_bytes()
 }
 
 /// What a sample is: decode time, place, size, duration, composition offset, and whether it is a sync sample.
@@ -131,21 +130,26 @@ const SECOND_TOLD: [Told; 5] = [
     (60, 24, 2, 20, 6, true),
 ];
 
-/// Asserts the samples of the one track of a file.
-fn expect_samples(
-    rt: &(impl Abort + AllocGlobal),
-    tables: &[Table],
-    want: &[Told],
-) -> Result<(), Fail> {
-    let file = classic(rt.alloc(), b"soun", tables)?;
-    let tracks = read_file(rt.alloc(), file.as_slice()).ok().ok_or("tracks")?;
-    let track = tracks.as_slice().first().ok_or("a track")?;
-    assert!(rt; is_track_of_the_file(track));
-    assert!(rt; track.samples.len() == want.len());
-    for (sample, wanted) in track.samples.as_slice().iter().zip(want.iter()) {
-        assert!(rt; view_of_sample(sample) == *wanted, "{wanted:?}");
+/// Whether these are the samples.
+fn are(samples: &[Sample], want: &[Told]) -> bool {
+    for (sample, wanted) in samples.iter().zip(want.iter()) {
+        if view_of_sample(sample) != *wanted {
+            return false;
+        }
     }
-    Ok(())
+    samples.len() == want.len()
+}
+
+/// Whether the one track of a file has these samples.
+fn has_samples(rt: &(impl Abort + AllocGlobal), tables: &[Table], want: &[Told]) -> bool {
+    let file = classic(rt, b"soun", tables);
+    match read_file(rt.alloc(), file.as_slice()) {
+        Ok(tracks) => match tracks.as_slice() {
+            [track] => is_track_of_the_file(track) && are(track.samples.as_slice(), want),
+            _ => false,
+        },
+        Err(_) => false,
+    }
 }
 
 /// Whether what a track has beside its samples is what the file tells: its number, the time by which it begins later,
@@ -159,9 +163,9 @@ fn is_track_of_the_file(track: &MediaTrack) -> bool {
 }
 
 #[test]
-fn samples_of_tables(rt: HostRuntime) -> Result<(), Fail> {
-    expect_samples(&rt, &FIRST, &FIRST_TOLD)?;
-    expect_samples(&rt, &SECOND, &SECOND_TOLD)
+fn samples_of_tables(rt: HostRuntime) {
+    expect(&rt, "first", has_samples(&rt, &FIRST, &FIRST_TOLD));
+    expect(&rt, "second", has_samples(&rt, &SECOND, &SECOND_TOLD));
 }
 
 fn fault_of(outcome: Result<Vec<MediaTrack>, FileError>) -> Option<PlacedFault> {
@@ -199,20 +203,16 @@ const FAULTS: [(usize, Table, MovieFault); 13] = [
     (5, (*b"free", 0, &[0]), MISSING),
 ];
 
-/// Asserts the fault of a file, which is that of its movie box.
-fn expect_fault(
+/// Whether a file has this fault, which is that of its movie box.
+fn has_fault(
     rt: &(impl Abort + AllocGlobal),
     handler: &[u8; 4],
     tables: &[Table],
     fault: MovieFault,
-) -> Result<(), Fail> {
-    let file = classic(rt.alloc(), handler, tables)?;
+) -> bool {
+    let file = classic(rt, handler, tables);
     let found = fault_of(read_file(rt.alloc(), file.as_slice()));
-    assert!(rt;
-        found == Some(PlacedFault { fault, offset: 32 }),
-        "{fault:?}"
-    );
-    Ok(())
+    found == Some(PlacedFault { fault, offset: 32 })
 }
 
 /// The first tables, with another in the place of one.
@@ -227,24 +227,30 @@ fn tables_with(at: usize, table: Table) -> [Table; 6] {
 const NO_DURATIONS: MovieFault = MovieFault::Moov(InitFault::Missing(*b"stts"));
 
 #[test]
-fn faults_of_tables(rt: HostRuntime) -> Result<(), Fail> {
-    for (at, table, fault) in &FAULTS {
-        expect_fault(&rt, b"soun", &tables_with(*at, *table), *fault)?;
+fn faults_of_tables(rt: HostRuntime) {
+    for (i, (at, table, fault)) in FAULTS.iter().enumerate() {
+        let found = has_fault(&rt, b"soun", &tables_with(*at, *table), *fault);
+        expect_at(&rt, i, found);
     }
-    expect_fault(&rt, b"soun", &[], NO_DURATIONS)?;
-    expect_fault(&rt, b"text", &FIRST, MovieFault::NoTracks)
+    expect(&rt, "no tables", has_fault(&rt, b"soun", &[], NO_DURATIONS));
+    let found = has_fault(&rt, b"text", &FIRST, MovieFault::NoTracks);
+    expect(&rt, "a track of text", found);
 }
 
 /// How many samples the one track of a file has, and how many of them are sync samples.
-fn counts(alloc: Global, tables: &[Table]) -> Result<(usize, usize), Fail> {
-    let file = classic(alloc, b"vide", tables)?;
-    let tracks = read_file(alloc, file.as_slice()).ok().ok_or("tracks")?;
-    let track = tracks.as_slice().first().ok_or("a track")?;
-    let samples = track.samples.as_slice();
-    Ok((
-        samples.len(),
-        samples.iter().filter(|sample| sample.sync).count(),
-    ))
+fn counts(rt: &(impl Abort + AllocGlobal), tables: &[Table]) -> Option<(usize, usize)> {
+    let file = classic(rt, b"vide", tables);
+    match read_file(rt.alloc(), file.as_slice()) {
+        Ok(tracks) => match tracks.as_slice() {
+            [track] => {
+                let samples = track.samples.as_slice();
+                let sync = samples.iter().filter(|sample| sample.sync);
+                Some((samples.len(), sync.count()))
+            }
+            _ => None,
+        },
+        Err(_) => None,
+    }
 }
 
 /// A table of sync samples without entries.
@@ -259,10 +265,9 @@ const NO_SAMPLES: [Table; 4] = [
 
 /// A table of sync samples without entries says that there is none, and a track may have no samples.
 #[test]
-fn empty_tables(rt: HostRuntime) -> Result<(), Fail> {
-    let none_sync = counts(rt.alloc(), &tables_with(2, NO_SYNC_SAMPLES))?;
-    assert!(rt; none_sync == (5, 0), "{none_sync:?}");
-    let none = counts(rt.alloc(), &NO_SAMPLES)?;
-    assert!(rt; none == (0, 0), "{none:?}");
-    Ok(())
+fn empty_tables(rt: HostRuntime) {
+    let none_sync = counts(&rt, &tables_with(2, NO_SYNC_SAMPLES));
+    expect(&rt, "no sync samples", none_sync == Some((5, 0)));
+    let none = counts(&rt, &NO_SAMPLES);
+    expect(&rt, "no samples", none == Some((0, 0)));
 }

@@ -1,12 +1,11 @@
 use super::made_boxes::{Part, made, overwrite};
+use super::rows::{expect, expect_at};
 use bmff_init::InitFault;
 use md5::{Digest, Md5};
 use mse_base::Bytes;
 use remux::*;
 use sample_tables::PlacedFault;
-use std::alloc::Global;
 use std::process::Abort;
-use std::test::*;
 
 /// A classic file of one video track, whose movie box is at 44. Its three samples of four bytes are one chunk at 32, and
 /// the first is a sync sample.
@@ -70,16 +69,21 @@ const CLASSIC: [Part<'static>; 57] = [
     Part::Close,
 ];
 
-fn classic(alloc: Global) -> Result<Vec<u8>, Fail> {
-    made(alloc, &CLASSIC)
+/// The bytes of pieces, and how many pieces there are.
+fn whole(rt: &(impl Abort + AllocGlobal), pieces: &[Bytes]) -> (Vec<u8>, usize) {
+    let mut bytes = Vec::new(rt.alloc());
+    for piece in pieces {
+        bytes
+            .extend_from_slice(piece.as_slice())
+            .expect(rt, "memory");
+    }
+    (bytes, pieces.len())
 }
 
-fn whole(alloc: Global, pieces: &[Bytes]) -> Result<Vec<u8>, Fail> {
-    let mut bytes = Vec::new(alloc);
-    for piece in pieces {
-        bytes.extend_from_slice(piece.as_slice())?;
-    }
-    Ok(bytes)
+/// The fragments of a file, and how many pieces they are.
+fn fragments_of(rt: &(impl Abort + AllocGlobal), file: &[u8]) -> (Vec<u8>, usize) {
+    let pieces = remux(rt.alloc(), file).expect(rt, "pieces");
+    whole(rt, pieces.as_slice())
 }
 
 /// A fault of a file, by its place.
@@ -93,17 +97,14 @@ fn digest_of(bytes: &[u8]) -> u128 {
 
 /// The bytes are known by their digest, since another program wrote them.
 #[test]
-fn fragments_of_a_video_track(rt: HostRuntime) -> Result<(), Fail> {
-    let alloc = rt.alloc();
-    let file = classic(alloc)?;
-    let pieces = remux(alloc, file.as_slice()).ok().ok_or("pieces")?;
-    assert!(rt; pieces.len() == 2);
-    let bytes = whole(alloc, pieces.as_slice())?;
-    assert!(rt; bytes.len() == 751);
-    assert!(rt; digest_of(bytes.as_slice()) == 0x71064bb2_ef61b365_34c3a50c_c680d4e3);
-    let again = remux(alloc, bytes.as_slice()).err();
-    assert!(rt; again == fault_at(RemuxFault::Fragmented, 24));
-    Ok(())
+fn fragments_of_a_video_track(rt: HostRuntime) {
+    let (bytes, count) = fragments_of(&rt, made(&rt, &CLASSIC).as_slice());
+    expect(&rt, "two pieces", (bytes.len(), count) == (751, 2));
+    let digest = digest_of(bytes.as_slice());
+    let wanted = 0x71064bb2_ef61b365_34c3a50c_c680d4e3;
+    expect(&rt, "their digest", digest == wanted);
+    let again = remux(rt.alloc(), bytes.as_slice()).err();
+    expect(&rt, "again", again == fault_at(RemuxFault::Fragmented, 24));
 }
 
 /// Bytes to write over a box: its type, a place from its first byte on, and the bytes; and the fault.
@@ -153,26 +154,23 @@ const FAULTS: [Change; 21] = [
     (*b"tkhd", 20, &[0; 4], RemuxFault::Range),
 ];
 
-/// Asserts the fault of the file with bytes written over those of a box.
-fn expect_fault(rt: &(impl Abort + AllocGlobal), change: &Change, offset: u64) -> Result<(), Fail> {
+/// Whether the file with bytes written over those of a box has the fault of the change.
+fn has_fault(rt: &(impl Abort + AllocGlobal), change: &Change, offset: u64) -> bool {
     let (kind, at, new, fault) = change;
-    let mut file = classic(rt.alloc())?;
-    overwrite(&mut file, kind, *at, new)?;
-    let found = remux(rt.alloc(), file.as_slice()).err();
-    assert!(rt; found == fault_at(*fault, offset), "{kind:?} {at}");
-    Ok(())
+    let mut file = made(rt, &CLASSIC);
+    overwrite(rt, &mut file, kind, *at, new);
+    remux(rt.alloc(), file.as_slice()).err() == fault_at(*fault, offset)
 }
 
 /// The size of the media is past the end of the file.
 const CUT_OFF: Change = (*b"mdat", 0, &[0xFF], RemuxFault::Box);
 
 #[test]
-fn faults(rt: HostRuntime) -> Result<(), Fail> {
-    for change in &FAULTS {
-        expect_fault(&rt, change, 44)?;
+fn faults(rt: HostRuntime) {
+    for (i, change) in FAULTS.iter().enumerate() {
+        expect_at(&rt, i, has_fault(&rt, change, 44));
     }
-    expect_fault(&rt, &CUT_OFF, 24)?;
+    expect(&rt, "media past the end", has_fault(&rt, &CUT_OFF, 24));
     let none = remux(rt.alloc(), &[]).err();
-    assert!(rt; none == fault_at(RemuxFault::NoMoov, 0));
-    Ok(())
+    expect(&rt, "no file", none == fault_at(RemuxFault::NoMoov, 0));
 }

@@ -1,8 +1,7 @@
+use super::rows::{expect, expect_at};
 use input_chunks::*;
 use mse_base::Bytes;
-use std::alloc::Global;
 use std::process::Abort;
-use std::test::*;
 
 /// What is done with pieces, or asserted of them.
 #[derive(Clone, Copy)]
@@ -25,16 +24,14 @@ enum PieceCall {
     Read(u8),
 }
 
-fn push(rt: &impl Abort, chunks: &mut Chunks, bytes: &[u8]) -> Result<(), Fail> {
+fn push(rt: &impl Abort, chunks: &mut Chunks, bytes: &[u8]) {
     assert!(rt; chunks.len() < 10_000 && bytes.len() < 10_000);
-    chunks.push(bytes)?;
-    Ok(())
+    chunks.push(bytes).expect(rt, "memory");
 }
 
-fn push_bytes(rt: &impl Abort, chunks: &mut Chunks, bytes: Bytes) -> Result<(), Fail> {
+fn push_bytes(rt: &impl Abort, chunks: &mut Chunks, bytes: Bytes) {
     assert!(rt; chunks.len() < 10_000 && bytes.len() < 10_000);
-    chunks.push_bytes(bytes)?;
-    Ok(())
+    chunks.push_bytes(bytes).expect(rt, "memory");
 }
 
 fn drop_front(rt: &impl Abort, chunks: &mut Chunks, n: usize) {
@@ -53,14 +50,13 @@ fn is_first(rt: &impl Abort, chunks: &Chunks, want: &[u8]) -> bool {
 }
 
 /// A copy of so many bytes from a place on.
-fn copy(rt: &impl Abort, chunks: &Chunks, from: usize, n: usize) -> Result<Bytes, Fail> {
+fn copy(rt: &impl Abort, chunks: &Chunks, from: usize, n: usize) -> Bytes {
     assert!(rt; from <= chunks.len() && n <= chunks.len() - from);
-    Ok(chunks.copy(from, n)?)
+    chunks.copy(from, n).expect(rt, "memory")
 }
 
-fn is_copy(rt: &impl Abort, chunks: &Chunks, want: &[u8]) -> Result<bool, Fail> {
-    let bytes = copy(rt, chunks, 0, want.len())?;
-    Ok(bytes.as_slice() == want)
+fn is_copy(rt: &impl Abort, chunks: &Chunks, want: &[u8]) -> bool {
+    copy(rt, chunks, 0, want.len()).as_slice() == want
 }
 
 fn is_read(rt: &impl Abort, chunks: &Chunks, want: u8) -> bool {
@@ -70,33 +66,40 @@ fn is_read(rt: &impl Abort, chunks: &Chunks, want: u8) -> bool {
     one == [want]
 }
 
-/// Does it. Whether what is asserted holds.
-fn holds(
-    rt: &(impl Abort + AllocGlobal),
-    chunks: &mut Chunks,
-    call: PieceCall,
-) -> Result<bool, Fail> {
+/// Adds or drops bytes; whether the step is such a call.
+fn acts(rt: &(impl Abort + AllocGlobal), chunks: &mut Chunks, call: PieceCall) -> bool {
     match call {
-        PieceCall::Push(bytes) => push(rt, chunks, bytes)?,
-        PieceCall::PushBytes(bytes) => push_bytes(rt, chunks, Bytes::copy_of(rt.alloc(), bytes)?)?,
+        PieceCall::Push(bytes) => push(rt, chunks, bytes),
+        PieceCall::PushBytes(bytes) => {
+            let bytes = Bytes::copy_of(rt.alloc(), bytes).expect(rt, "memory");
+            push_bytes(rt, chunks, bytes);
+        }
         PieceCall::DropFront(n) => drop_front(rt, chunks, n),
         PieceCall::DropBack(n) => drop_back(rt, chunks, n),
-        PieceCall::Len(want) => return Ok(chunks.len() == want),
-        PieceCall::Pieces(want) => return Ok(chunks.pieces() == want),
-        PieceCall::First(want) => return Ok(is_first(rt, chunks, want)),
-        PieceCall::Copy(want) => return is_copy(rt, chunks, want),
-        PieceCall::Read(want) => return Ok(is_read(rt, chunks, want)),
+        _ => return false,
     }
-    Ok(true)
+    true
+}
+
+/// Whether the pieces are what is asserted of them.
+fn are(rt: &impl Abort, chunks: &Chunks, call: PieceCall) -> bool {
+    match call {
+        PieceCall::Len(want) => chunks.len() == want,
+        PieceCall::Pieces(want) => chunks.pieces() == want,
+        PieceCall::First(want) => is_first(rt, chunks, want),
+        PieceCall::Copy(want) => is_copy(rt, chunks, want),
+        PieceCall::Read(want) => is_read(rt, chunks, want),
+        _ => false,
+    }
 }
 
 /// Does one after the other.
-fn play(rt: &(impl Abort + AllocGlobal), calls: &[PieceCall]) -> Result<(), Fail> {
+fn play(rt: &(impl Abort + AllocGlobal), calls: &[PieceCall]) {
     let mut chunks = Chunks::new(rt.alloc());
     for (i, call) in calls.iter().enumerate() {
-        assert!(rt; holds(rt, &mut chunks, *call)?, "call {i}");
+        let holds = acts(rt, &mut chunks, *call) || are(rt, &chunks, *call);
+        expect_at(rt, i, holds);
     }
-    Ok(())
 }
 
 const SEVENS: [u8; 4092] = [7; 4092];
@@ -125,8 +128,8 @@ const COPIED: [PieceCall; 19] = [
 
 /// What no clause says: that memory which is there is taken, and the limit of 4096 by numbers.
 #[test]
-fn pieces_join_and_split(rt: HostRuntime) -> Result<(), Fail> {
-    play(&rt, &COPIED)
+fn pieces_join_and_split(rt: HostRuntime) {
+    play(&rt, &COPIED);
 }
 
 const SHARED: [PieceCall; 11] = [
@@ -145,27 +148,33 @@ const SHARED: [PieceCall; 11] = [
 
 /// Bytes whose memory is shared make the pieces that they make when they are copied.
 #[test]
-fn owned_pieces_join_and_split(rt: HostRuntime) -> Result<(), Fail> {
-    play(&rt, &SHARED)
+fn owned_pieces_join_and_split(rt: HostRuntime) {
+    play(&rt, &SHARED);
+}
+
+/// A piece of 5000 bytes of value 7.
+fn long_piece(rt: &(impl Abort + AllocGlobal)) -> Bytes {
+    let mut bytes = Vec::new(rt.alloc());
+    bytes.resize(5000, 7).expect(rt, "memory");
+    Bytes::from_vec(rt.alloc(), bytes).expect(rt, "memory")
 }
 
 /// Parts of a long piece stay as they are, whatever becomes of the piece.
 #[test]
-fn parts_of_a_long_piece_stay(rt: HostRuntime) -> Result<(), Fail> {
+fn parts_of_a_long_piece_stay(rt: HostRuntime) {
     let mut chunks = Chunks::new(rt.alloc());
-    let piece = Bytes::from_vec(rt.alloc(), vec![in rt.alloc(); 7u8; 5000]?)?;
-    push_bytes(&rt, &mut chunks, piece.copy()?)?;
-    let front = copy(&rt, &chunks, 0, 2)?;
-    let back = copy(&rt, &chunks, 4998, 2)?;
-    let none = copy(&rt, &chunks, 5000, 0)?;
+    let piece = long_piece(&rt);
+    push_bytes(&rt, &mut chunks, piece.copy().expect(&rt, "memory"));
+    let front = copy(&rt, &chunks, 0, 2);
+    let back = copy(&rt, &chunks, 4998, 2);
+    let none = copy(&rt, &chunks, 5000, 0);
     drop_front(&rt, &mut chunks, 4998);
-    push(&rt, &mut chunks, b"ab")?;
-    assert!(rt; chunks.pieces() == 1);
-    assert!(rt; is_first(&rt, &chunks, b"\x07\x07ab"));
+    push(&rt, &mut chunks, b"ab");
+    expect(&rt, "one piece", chunks.pieces() == 1);
+    expect(&rt, "joined", is_first(&rt, &chunks, b"\x07\x07ab"));
     drop_back(&rt, &mut chunks, 4);
-    assert!(rt; front.as_slice() == b"\x07\x07".as_slice());
-    assert!(rt; back.as_slice() == b"\x07\x07".as_slice());
-    assert!(rt; none.is_empty());
-    assert!(rt; piece.len() == 5000);
-    Ok(())
+    let sevens = b"\x07\x07".as_slice();
+    let parts = (front.as_slice(), back.as_slice(), none.len());
+    expect(&rt, "parts", parts == (sevens, sevens, 0));
+    expect(&rt, "the piece", piece.len() == 5000);
 }

@@ -1,7 +1,7 @@
 //! Boxes that are made for a test, and changed.
 
 use std::alloc::Global;
-use std::test::*;
+use std::process::Abort;
 
 /// A part of a file.
 #[derive(Clone, Copy)]
@@ -29,34 +29,33 @@ impl Boxes {
     }
 
     /// Begins a box of this type.
-    pub(super) fn open(&mut self, kind: &[u8; 4]) -> Result<(), Fail> {
-        self.starts.push(self.bytes.len())?;
-        self.bytes.extend_from_slice(&[0; 4])?;
-        self.bytes.extend_from_slice(kind)?;
-        Ok(())
+    pub(super) fn open(&mut self, rt: &impl Abort, kind: &[u8; 4]) {
+        self.starts.push(self.bytes.len()).expect(rt, "memory");
+        self.push(rt, &[0; 4]);
+        self.push(rt, kind);
     }
 
-    pub(super) fn push(&mut self, bytes: &[u8]) -> Result<(), Fail> {
-        self.bytes.extend_from_slice(bytes)?;
-        Ok(())
+    pub(super) fn push(&mut self, rt: &impl Abort, bytes: &[u8]) {
+        self.bytes.extend_from_slice(bytes).expect(rt, "memory");
     }
 
     /// Ends the box that began last.
-    pub(super) fn close(&mut self) -> Result<(), Fail> {
-        let start = self.starts.pop().ok_or("a box is open")?;
-        write_size(&mut self.bytes, start)
+    pub(super) fn close(&mut self, rt: &impl Abort) {
+        let start = self.starts.pop().expect(rt, "a box is open");
+        let len = self.bytes.len().saturating_sub(start);
+        let size = u32::try_from(len).expect(rt, "a short box");
+        write_at(rt, &mut self.bytes, start, &size.to_be_bytes());
     }
 
     /// Appends parts.
-    pub(super) fn put(&mut self, parts: &[Part<'_>]) -> Result<(), Fail> {
+    pub(super) fn put(&mut self, rt: &impl Abort, parts: &[Part<'_>]) {
         for part in parts {
             match part {
-                Part::Open(kind) => self.open(*kind)?,
-                Part::Bytes(bytes) => self.push(*bytes)?,
-                Part::Close => self.close()?,
+                Part::Open(kind) => self.open(rt, *kind),
+                Part::Bytes(bytes) => self.push(rt, *bytes),
+                Part::Close => self.close(rt),
             }
         }
-        Ok(())
     }
 
     pub(super) fn into_bytes(self) -> Vec<u8> {
@@ -65,46 +64,33 @@ impl Boxes {
 }
 
 /// The bytes of these parts.
-pub(super) fn made(alloc: Global, parts: &[Part<'_>]) -> Result<Vec<u8>, Fail> {
-    let mut boxes = Boxes::new(alloc);
-    boxes.put(parts)?;
-    Ok(boxes.into_bytes())
-}
-
-/// Writes the size of the box that starts there and ends with the bytes.
-fn write_size(bytes: &mut Vec<u8>, start: usize) -> Result<(), Fail> {
-    let len = bytes
-        .len()
-        .checked_sub(start)
-        .ok_or("a box starts before its end")?;
-    let size = u32::try_from(len).ok().ok_or("a short box")?;
-    write_at(bytes, start, &size.to_be_bytes())
+pub(super) fn made(rt: &(impl Abort + AllocGlobal), parts: &[Part<'_>]) -> Vec<u8> {
+    let mut boxes = Boxes::new(rt.alloc());
+    boxes.put(rt, parts);
+    boxes.into_bytes()
 }
 
 /// Writes bytes over those from a place on.
-fn write_at(bytes: &mut Vec<u8>, from: usize, new: &[u8]) -> Result<(), Fail> {
-    let rest = bytes.as_mut_slice().get_mut(from..).ok_or("inside")?;
+fn write_at(rt: &impl Abort, bytes: &mut Vec<u8>, from: usize, new: &[u8]) {
+    let rest = bytes.as_mut_slice().get_mut(from..).expect(rt, "inside");
     for (old, byte) in rest.iter_mut().zip(new.iter()) {
         *old = *byte;
     }
-    Ok(())
 }
 
 /// Writes bytes over those at a place of the first box of a type.
 pub(super) fn overwrite(
+    rt: &impl Abort,
     bytes: &mut Vec<u8>,
     kind: &[u8; 4],
     at: usize,
     new: &[u8],
-) -> Result<(), Fail> {
-    let start = bytes
+) {
+    let name = bytes
         .windows(4)
         .position(|w| w == kind.as_slice())
-        .ok_or("the box is there")?;
-    let from = start
-        .checked_add(at)
-        .ok_or("a small place")?
-        .checked_sub(4)
-        .ok_or("behind a size")?;
-    write_at(bytes, from, new)
+        .expect(rt, "the box is there");
+    let start = name.checked_sub(4).expect(rt, "behind a size");
+    let from = start.checked_add(at).expect(rt, "a small place");
+    write_at(rt, bytes, from, new);
 }

@@ -1,5 +1,5 @@
+use super::rows::{expect, expect_at};
 use mse_types::*;
-use std::test::*;
 
 /// Each text without quotes, with its answer.
 const TEXTS: [(&str, TypeAnswer); 42] = [
@@ -71,7 +71,7 @@ const TEXTS: [(&str, TypeAnswer); 42] = [
 #[test]
 fn types(rt: HostRuntime) {
     for (text, answer) in &TEXTS {
-        assert!(rt; read_type(text) == *answer, "{text}");
+        expect(&rt, text, read_type(text) == *answer);
     }
 }
 
@@ -136,7 +136,7 @@ const QUOTED: [(&str, TypeAnswer); 24] = [
 #[test]
 fn types_with_quotes(rt: HostRuntime) {
     for (text, answer) in &QUOTED {
-        assert!(rt; read_type(text) == *answer, "{text}");
+        expect(&rt, text, read_type(text) == *answer);
     }
 }
 
@@ -151,7 +151,7 @@ const SAMPLE_ENTRIES: [([u8; 4], bool); 5] = [
 
 #[test]
 fn sample_entries(rt: HostRuntime) {
-    for (codec, known) in &SAMPLE_ENTRIES {
-        assert!(rt; codec_known(*codec) == *known, "{codec:?}");
+    for (i, (codec, known)) in SAMPLE_ENTRIES.iter().enumerate() {
+        expect_at(&rt, i, codec_known(*codec) == *known);
     }
 }
