@@ -2,5 +2,7 @@
 
 mod calls;
 mod journal;
+mod printed_calls;
 mod printed_lines;
+mod rows;
 mod scripts;

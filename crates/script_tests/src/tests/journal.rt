@@ -1,78 +1,59 @@
+//! A journal: what is put in, and what is found at each place.
+
+use mse_base::OutOfMemory;
 use mse_calls::{Answer, Call, Entry, Event, EventKind, Name, Piece, Target};
 use run_journal::{EntryRef, Journal};
+use std::process::Abort;
 use std::test::Fail;
 
-/// An entry comes last, and is found at its place.
-#[test]
-fn keeps_entries(rt: HostRuntime) -> Result<(), Fail> {
-    let event = Event {
-        target: Target::Buffer(1),
-        kind: EventKind::Update,
-    };
-    let mut journal = Journal::new(rt.alloc());
-    journal.reserve(1)?;
-    journal.push_reserved(Entry::Fired(event));
-    let Some(EntryRef::Fired(fired)) = journal.get(0) else {
-        return Err(Fail::new("another entry"));
-    };
-    assert_eq!(rt; fired, event);
-    assert_eq!(rt; journal.len(), 1);
-    assert!(rt; journal.get(1).is_none());
-    Ok(())
-}
+/// The entries of `journal_of_calls`, and then none.
+const CALLS: [&str; 6] = [
+    "Some(Append(3, Piece { blob: 2, part: Some((7, 1)) }))",
+    "Some(Step(9))",
+    "Some(Script(AppendBuffer(4, Piece { blob: 2, part: Some((7, 1)) }), Refused(InvalidState)))",
+    "Some(Listener(5, Play, Done))",
+    "Some(Fired(Event { target: Buffer(1), kind: Update }))",
+    "None",
+];
 
-/// Calls stand with their answers, those of listeners and of the script, whatever came between.
-#[test]
-fn keeps_calls(rt: HostRuntime) -> Result<(), Fail> {
+/// Calls of the script and of a listener with their answers, a step between them, and an event.
+fn journal_of_calls(rt: &impl AllocGlobal) -> Result<Journal, OutOfMemory> {
     let piece = Piece {
         blob: 2,
         part: Some((7, 1)),
     };
+    let event = Event {
+        target: Target::Buffer(1),
+        kind: EventKind::Update,
+    };
     let refused = Answer::Refused(Name::InvalidState);
     let mut journal = Journal::new(rt.alloc());
-    journal.reserve(4)?;
+    journal.reserve(5)?;
     journal.push_reserved(Entry::Script(Call::AppendBuffer(3, piece), Answer::Done));
     journal.push_reserved(Entry::Step(9));
     journal.push_reserved(Entry::Script(Call::AppendBuffer(4, piece), refused));
     journal.push_reserved(Entry::Listener(5, Call::Play, Answer::Done));
-    let Some(EntryRef::Append(3, first)) = journal.get(0) else {
-        return Err(Fail::new("another append"));
-    };
-    assert_eq!(rt; first, piece);
-    let Some(EntryRef::Script(Call::AppendBuffer(4, second), Answer::Refused(_))) = journal.get(2)
-    else {
-        return Err(Fail::new("another call"));
-    };
-    assert_eq!(rt; *second, piece);
-    let Some(EntryRef::Listener(5, Call::Play, Answer::Done)) = journal.get(3) else {
-        return Err(Fail::new("another call of a listener"));
-    };
-    Ok(())
+    journal.push_reserved(Entry::Fired(event));
+    Ok(journal)
 }
 
-/// The buffer of a step of work in the journal; `None` where another entry stands.
-fn worked_at(journal: &Journal, i: usize) -> Option<u32> {
-    match journal.get(i) {
-        Some(EntryRef::Work(k)) => Some(k),
-        _ => None,
-    }
-}
+/// The entries of `journal_of_work`, and then none.
+const RUNS_OF_WORK: [&str; 11] = [
+    "Some(Work(1))",
+    "Some(Work(1))",
+    "Some(Work(1))",
+    "Some(Work(2))",
+    "Some(Work(2))",
+    "Some(Work(1))",
+    "Some(Step(7))",
+    "Some(Work(1))",
+    "Some(Work(1))",
+    "Some(Element)",
+    "None",
+];
 
-/// Steps of work stand one by one, whatever ends a run of them: one on another buffer, or another entry.
-#[test]
-fn keeps_runs_of_work(rt: HostRuntime) -> Result<(), Fail> {
-    let wanted = [
-        Some(1),
-        Some(1),
-        Some(1),
-        Some(2),
-        Some(2),
-        Some(1),
-        None,
-        Some(1),
-        Some(1),
-        None,
-    ];
+/// Steps of work, with whatever ends a run of them: one on another buffer, or another entry.
+fn journal_of_work(rt: &impl AllocGlobal) -> Result<Journal, OutOfMemory> {
     let mut journal = Journal::new(rt.alloc());
     journal.reserve(10)?;
     journal.push_work_reserved(1);
@@ -85,13 +66,24 @@ fn keeps_runs_of_work(rt: HostRuntime) -> Result<(), Fail> {
     journal.push_work_reserved(1);
     journal.push_work_reserved(1);
     journal.push_reserved(Entry::Element);
-    assert_eq!(rt; journal.len(), 10);
-    for i in 0..10 {
-        let found = worked_at(&journal, i);
-        assert!(rt; found == wanted[i], "another entry at {i}: {found:?}");
+    Ok(journal)
+}
+
+/// Asserts what is found at each place; behind the last entry that is nothing.
+fn expect_entries(rt: &(impl Abort + AllocGlobal), journal: &Journal, wanted: &[&str]) {
+    for (i, wanted) in wanted.iter().enumerate() {
+        let found = format!(in rt.alloc(); "{:?}", journal.get(i)).expect(rt, "memory");
+        assert!(rt; found.as_str() == *wanted, "{i}: {}", found.as_str());
     }
-    assert!(rt; matches!(journal.get(6), Some(EntryRef::Step(7))));
-    assert!(rt; matches!(journal.get(9), Some(EntryRef::Element)));
-    assert!(rt; journal.get(10).is_none());
+}
+
+/// Entries stand one behind the other, each as it was put in.
+#[test]
+fn keeps_entries(rt: HostRuntime) -> Result<(), Fail> {
+    let calls = journal_of_calls(&rt)?;
+    expect_entries(&rt, &calls, &CALLS);
+    let work = journal_of_work(&rt)?;
+    expect_entries(&rt, &work, &RUNS_OF_WORK);
+    assert!(rt; (calls.len(), work.len()) == (5, 10));
     Ok(())
 }

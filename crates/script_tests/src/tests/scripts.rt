@@ -1,96 +1,100 @@
+//! Scripts, and what they mean.
+
 mod faults;
 
+use super::rows::expect_printed;
 use call_script::*;
-use event_text::line_of;
-use mse_base::{Moment, OutOfMemory};
-use mse_calls::{Answer, Call, Entry, Rule};
-use std::alloc::Global;
-use std::test::Fail;
+use event_text::{event_line, listener_line, script_line};
+use mse_base::{OutOfMemory, Text};
+use mse_calls::{Answer, Call, Rule};
+use std::process::Abort;
 
-/// A fault as a text.
-fn push_fault(text: &mut String, fault: &ScriptFault) -> Result<(), OutOfMemory> {
-    match fault {
-        ScriptFault::NotToml => text.push_str("fault not toml\n")?,
-        ScriptFault::Key(name) => write!(text, "fault key {}\n", name.as_str())?,
-        ScriptFault::TooMany(key) => write!(text, "fault too many {}\n", key.name())?,
-        ScriptFault::Blob(n) => write!(text, "fault blob {n}\n")?,
-        ScriptFault::Step(n) => write!(text, "fault step {n}\n")?,
-        ScriptFault::Rule(n) => write!(text, "fault rule {n}\n")?,
+/// A fault as a line.
+fn fault_text(rt: &(impl Abort + AllocGlobal), fault: &ScriptFault) -> String {
+    let text = match fault {
+        ScriptFault::NotToml => format!(in rt.alloc(); "fault not toml\n"),
+        ScriptFault::Key(name) => format!(in rt.alloc(); "fault key {}\n", name.as_str()),
+        ScriptFault::TooMany(key) => format!(in rt.alloc(); "fault too many {}\n", key.name()),
+        ScriptFault::Blob(n) => format!(in rt.alloc(); "fault blob {n}\n"),
+        ScriptFault::Step(n) => format!(in rt.alloc(); "fault step {n}\n"),
+        ScriptFault::Rule(n) => format!(in rt.alloc(); "fault rule {n}\n"),
+    };
+    text.expect(rt, "memory")
+}
+
+/// A script, or the line of its fault.
+fn read(rt: &(impl Abort + AllocGlobal), script: &[u8]) -> Result<Script, String> {
+    match read_script(rt.alloc(), script) {
+        Ok(script) => Ok(script),
+        Err(ScriptError::OutOfMemory) => Err(String::new(rt.alloc())),
+        Err(ScriptError::Fault(fault)) => Err(fault_text(rt, &fault)),
     }
-    Ok(())
 }
 
-fn push_entry(text: &mut String, alloc: Global, entry: &Entry) -> Result<(), OutOfMemory> {
-    let line = line_of(alloc, entry)?;
-    text.push_str(line.as_str())?;
-    Ok(())
+fn push(rt: &impl Abort, text: &mut String, more: &str) {
+    text.push_str(more).expect(rt, "memory");
 }
 
-fn push_blob(text: &mut String, blob: &BlobText) -> Result<(), OutOfMemory> {
-    match blob {
-        BlobText::File(name) => write!(text, "file {}\n", name.as_str())?,
-        BlobText::Hex(bytes) => {
-            text.push_str("hex")?;
-            for byte in bytes.as_slice() {
-                write!(text, " {byte}")?;
-            }
-            text.push_str("\n")?;
-        }
-    }
-    Ok(())
+fn push_line(rt: &impl Abort, text: &mut String, line: Result<Text, OutOfMemory>) {
+    let line = line.expect(rt, "memory");
+    push(rt, text, line.as_str());
 }
 
-fn push_step(text: &mut String, alloc: Global, step: &StepLine) -> Result<(), OutOfMemory> {
+fn push_blob(rt: &impl Abort, text: &mut String, blob: &BlobText) {
+    let pushed = match blob {
+        BlobText::File(name) => write!(text, "file {}\n", name.as_str()),
+        BlobText::Hex(bytes) => write!(text, "hex {:?}\n", bytes.as_slice()),
+    };
+    pushed.expect(rt, "memory");
+}
+
+fn push_step(rt: &(impl Abort + AllocGlobal), text: &mut String, step: &StepLine) {
     match step {
-        StepLine::Call(call) => {
-            push_entry(text, alloc, &Entry::Script(call.copy()?, Answer::Done))?;
-        }
-        StepLine::Fire => text.push_str("fire\n")?,
-        StepLine::Work(k) => write!(text, "work {k}\n")?,
-        StepLine::Element => text.push_str("element\n")?,
-        StepLine::Drain => text.push_str("drain\n")?,
+        StepLine::Call(call) => push_line(rt, text, script_line(rt.alloc(), call, &Answer::Done)),
+        StepLine::Fire => push(rt, text, "fire\n"),
+        StepLine::Work(k) => write!(text, "work {k}\n").expect(rt, "memory"),
+        StepLine::Element => push(rt, text, "element\n"),
+        StepLine::Drain => push(rt, text, "drain\n"),
     }
-    Ok(())
 }
 
-fn push_rule(text: &mut String, alloc: Global, rule: &Rule) -> Result<(), OutOfMemory> {
-    write!(
-        text,
-        "rule {} {} {}\n",
-        rule.listener, rule.times, rule.repeat
-    )?;
-    push_entry(text, alloc, &Entry::Fired(rule.on))?;
+fn push_rule(rt: &(impl Abort + AllocGlobal), text: &mut String, rule: &Rule) {
+    let (number, times, repeat) = (rule.listener, rule.times, rule.repeat);
+    write!(text, "rule {number} {times} {repeat}\n").expect(rt, "memory");
+    push_line(rt, text, event_line(rt.alloc(), &rule.on));
     for call in rule.calls.as_slice() {
-        let entry = Entry::Listener(rule.listener, call.copy()?, Answer::Done);
-        push_entry(text, alloc, &entry)?;
+        let line = listener_line(rt.alloc(), number, call, &Answer::Done);
+        push_line(rt, text, line);
     }
-    Ok(())
 }
 
-/// A script, or its fault, as a text.
-fn answer(alloc: Global, script: &str) -> Result<String, OutOfMemory> {
-    let mut text = String::new(alloc);
-    match read_script(alloc, script.as_bytes()) {
-        Ok(script) => {
-            write!(
-                text,
-                "quota {} drain {} gap {}\n",
-                script.quota, script.drain, script.gap
-            )?;
-            for blob in script.blobs.as_slice() {
-                push_blob(&mut text, blob)?;
-            }
-            for step in script.steps.as_slice() {
-                push_step(&mut text, alloc, step)?;
-            }
-            for rule in script.rules.as_slice() {
-                push_rule(&mut text, alloc, rule)?;
-            }
-        }
-        Err(ScriptError::OutOfMemory) => return Err(OutOfMemory),
-        Err(ScriptError::Fault(fault)) => push_fault(&mut text, &fault)?,
+/// A script as a text: a line for each setting, blob, step and rule.
+fn script_text(rt: &(impl Abort + AllocGlobal), script: &Script) -> String {
+    let mut text = String::new(rt.alloc());
+    let (quota, drain, gap) = (script.quota, script.drain, script.gap);
+    write!(text, "quota {quota} drain {drain} gap {gap}\n").expect(rt, "memory");
+    for blob in script.blobs.as_slice() {
+        push_blob(rt, &mut text, blob);
     }
-    Ok(text)
+    for step in script.steps.as_slice() {
+        push_step(rt, &mut text, step);
+    }
+    for rule in script.rules.as_slice() {
+        push_rule(rt, &mut text, rule);
+    }
+    text
+}
+
+/// Asserts what a script means, behind the line of its settings.
+fn expect_meaning(rt: &(impl Abort + AllocGlobal), script: &str, settings: &str, means: &str) {
+    let found = match read(rt, script.as_bytes()) {
+        Ok(script) => script_text(rt, &script),
+        Err(fault) => fault,
+    };
+    assert!(rt;
+        found.as_str().strip_prefix(settings) == Some(means),
+        "{script}"
+    );
 }
 
 /// Scripts of settings, blobs and faults, each with what it means.
@@ -124,7 +128,7 @@ const SCRIPTS: [(&str, &str); 59] = [
     ("[rules]\n", "fault key rules\n"),
     (
         "blobs = [\"file a b\", \"file  \", \"hex 00fFAa\", \"hex \"]\n",
-        "quota 134217728 drain 100000 gap 0\nfile a b\nfile  \nhex 0 255 170\nhex\n",
+        "quota 134217728 drain 100000 gap 0\nfile a b\nfile  \nhex [0, 255, 170]\nhex []\n",
     ),
     ("blobs = [\"file \"]\n", "fault blob 0\n"),
     ("blobs = [\"file\"]\n", "fault blob 0\n"),
@@ -178,26 +182,14 @@ const SCRIPTS: [(&str, &str); 59] = [
 ];
 
 #[test]
-fn scripts(rt: HostRuntime) -> Result<(), Fail> {
-    let alloc = rt.alloc();
-    for (script, means) in SCRIPTS {
-        let text = answer(alloc, script)?;
-        assert_eq!(rt; text.as_str(), means, "{script}");
+fn scripts(rt: HostRuntime) {
+    for &(script, means) in &SCRIPTS {
+        expect_meaning(&rt, script, "", means);
     }
-    Ok(())
 }
 
-/// The first line of the answer where all settings are left out.
+/// The settings where all are left out.
 const DEFAULTS: &str = "quota 134217728 drain 100000 gap 0\n";
-
-fn after_defaults(alloc: Global, script: &str) -> Result<String, OutOfMemory> {
-    let text = answer(alloc, script)?;
-    let rest = String::from_str(
-        alloc,
-        text.as_str().strip_prefix(DEFAULTS).unwrap_or("fault"),
-    )?;
-    Ok(rest)
-}
 
 /// Lines that are step lines, with what they print.
 const LINES: [(&str, &str); 39] = [
@@ -261,14 +253,11 @@ const LINES: [(&str, &str); 39] = [
 ];
 
 #[test]
-fn lines(rt: HostRuntime) -> Result<(), Fail> {
-    let alloc = rt.alloc();
-    for (line, printed) in LINES {
-        let script = format!(in alloc; "steps = ['{line}']\n")?;
-        let text = after_defaults(alloc, script.as_str())?;
-        assert_eq!(rt; text.as_str(), printed, "{line}");
+fn lines(rt: HostRuntime) {
+    for &(line, printed) in &LINES {
+        let script = format!(in rt.alloc(); "steps = ['{line}']\n").expect(&rt, "memory");
+        expect_meaning(&rt, script.as_str(), DEFAULTS, printed);
     }
-    Ok(())
 }
 
 /// Lines that are no step lines, as they stand between the quotes of TOML.
@@ -345,14 +334,11 @@ const BAD_LINES: [&str; 69] = [
 ];
 
 #[test]
-fn bad_lines(rt: HostRuntime) -> Result<(), Fail> {
-    let alloc = rt.alloc();
-    for line in BAD_LINES {
-        let script = format!(in alloc; "steps = [\"{line}\", \"\"]\n")?;
-        let text = answer(alloc, script.as_str())?;
-        assert_eq!(rt; text.as_str(), "fault step 0\n", "{line}");
+fn bad_lines(rt: HostRuntime) {
+    for line in &BAD_LINES {
+        let script = format!(in rt.alloc(); "steps = [\"{line}\", \"\"]\n").expect(&rt, "memory");
+        expect_meaning(&rt, script.as_str(), "", "fault step 0\n");
     }
-    Ok(())
 }
 
 /// The lines of a rule.
@@ -364,14 +350,22 @@ const RULE: [(&str, &str); 5] = [
     ("calls", "calls = [\"abort 3\", \"append 3 0 1 2\"]"),
 ];
 
-/// The rule with another line for one of its keys.
-fn rule_with(alloc: Global, changed: &str, line: &str) -> Result<String, OutOfMemory> {
-    let mut text = String::from_str(alloc, "[[rules]]\n")?;
-    for (key, usual) in RULE {
+/// Asserts what a rule means that has another line for one of its keys.
+fn expect_rule(
+    rt: &(impl Abort + AllocGlobal),
+    changed: &str,
+    line: &str,
+    settings: &str,
+    means: &str,
+) {
+    let mut script = String::new(rt.alloc());
+    push(rt, &mut script, "[[rules]]\n");
+    for &(key, usual) in &RULE {
         let line = if key == changed { line } else { usual };
-        write!(text, "{line}\n")?;
+        push(rt, &mut script, line);
+        push(rt, &mut script, "\n");
     }
-    Ok(text)
+    expect_meaning(rt, script.as_str(), settings, means);
 }
 
 /// A key with its line in place of the usual one, and what the rule then is.
@@ -476,19 +470,13 @@ const BAD_RULES: [(&str, &str); 28] = [
 ];
 
 #[test]
-fn rules(rt: HostRuntime) -> Result<(), Fail> {
-    let alloc = rt.alloc();
-    for (key, line, means) in RULES {
-        let script = rule_with(alloc, key, line)?;
-        let text = after_defaults(alloc, script.as_str())?;
-        assert_eq!(rt; text.as_str(), means, "{line}");
+fn rules(rt: HostRuntime) {
+    for &(key, line, means) in &RULES {
+        expect_rule(&rt, key, line, DEFAULTS, means);
     }
-    for (key, line) in BAD_RULES {
-        let script = rule_with(alloc, key, line)?;
-        let text = answer(alloc, script.as_str())?;
-        assert_eq!(rt; text.as_str(), "fault rule 0\n", "{line}");
+    for &(key, line) in &BAD_RULES {
+        expect_rule(&rt, key, line, "", "fault rule 0\n");
     }
-    Ok(())
 }
 
 /// Texts of times, with the call that they print in; the empty text where they are no times.
@@ -551,26 +539,15 @@ const TIMES: [(&str, &str); 44] = [
     ("200/1000", "call seek 28224000000: done\n"),
 ];
 
-fn seek_text(alloc: Global, time: Option<Moment>) -> Result<String, OutOfMemory> {
-    let mut text = String::new(alloc);
-    if let Some(t) = time {
-        push_entry(
-            &mut text,
-            alloc,
-            &Entry::Script(Call::Seek(t), Answer::Done),
-        )?;
-    }
-    Ok(text)
-}
-
 #[test]
-fn times(rt: HostRuntime) -> Result<(), Fail> {
-    let alloc = rt.alloc();
-    for (text, printed) in TIMES {
-        let read = seek_text(alloc, read_time(text))?;
-        assert_eq!(rt; read.as_str(), printed, "{text}");
+fn times(rt: HostRuntime) {
+    for &(text, printed) in &TIMES {
+        let line = match read_time(text) {
+            Some(t) => script_line(rt.alloc(), &Call::Seek(t), &Answer::Done),
+            None => Text::copy_of(rt.alloc(), ""),
+        };
+        expect_printed(&rt, line, printed);
     }
-    Ok(())
 }
 
 /// The script that docs/SCRIPTS.md explains line by line, and what it means.
@@ -604,7 +581,7 @@ calls = ["append 0 0 745 6", "buffered 0"]
     "\
 quota 1000000 drain 500 gap 141120
 file movie.mp4
-hex 0 0 0 8 102 114 101 101
+hex [0, 0, 0, 8, 102, 114, 101, 101]
 call attach: done
 call add video/mp4; codecs=\"avc1.42E01E\": done
 call windowstart 0 70560000000: done
@@ -625,8 +602,6 @@ listener 0 buffered 0: done
 );
 
 #[test]
-fn whole_script(rt: HostRuntime) -> Result<(), Fail> {
-    let text = answer(rt.alloc(), WHOLE.0)?;
-    assert_eq!(rt; text.as_str(), WHOLE.1);
-    Ok(())
+fn whole_script(rt: HostRuntime) {
+    expect_meaning(&rt, WHOLE.0, "", WHOLE.1);
 }

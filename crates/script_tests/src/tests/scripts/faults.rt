@@ -3,84 +3,70 @@
 use super::*;
 
 /// A key with a list of `count` times the same member.
-fn list_of(alloc: Global, key: &str, member: &str, count: usize) -> Result<String, OutOfMemory> {
-    let mut text = format!(in alloc; "{key} = [")?;
+fn list_of(rt: &(impl Abort + AllocGlobal), key: &str, member: &str, count: usize) -> String {
+    let mut text = format!(in rt.alloc(); "{key} = [").expect(rt, "memory");
     for _ in 0..count {
-        text.push_str(member)?;
-        text.push_str(", ")?;
+        push(rt, &mut text, member);
+        push(rt, &mut text, ", ");
     }
-    text.push_str("]\n")?;
-    Ok(text)
+    push(rt, &mut text, "]\n");
+    text
 }
 
-fn fault_of(alloc: Global, script: &str) -> Result<String, OutOfMemory> {
-    let mut text = String::new(alloc);
-    match read_script(alloc, script.as_bytes()) {
-        Ok(_script) => text.push_str("none\n")?,
-        Err(ScriptError::OutOfMemory) => return Err(OutOfMemory),
-        Err(ScriptError::Fault(fault)) => push_fault(&mut text, &fault)?,
+/// Asserts that a script has a fault, or none.
+fn expect_fault(rt: &(impl Abort + AllocGlobal), script: &[u8], fault: &str) {
+    match read(rt, script) {
+        Ok(_) => assert!(rt; fault == "none\n", "{fault}"),
+        Err(found) => assert!(rt; found.as_str() == fault, "{fault}"),
     }
-    Ok(text)
 }
+
+/// Asserts which fault two texts have, one behind the other.
+fn expect_fault_of_two(rt: &(impl Abort + AllocGlobal), first: &[u8], second: &[u8], fault: &str) {
+    let mut script = Vec::from_slice(rt.alloc(), first).expect(rt, "memory");
+    script.extend_from_slice(second).expect(rt, "memory");
+    expect_fault(rt, script.as_slice(), fault);
+}
+
+/// A key, how often a member stands in its list, and the fault.
+const LISTS: [(&str, usize, &str, &str); 12] = [
+    ("blobs", 1000, "\"hex \"", "none\n"),
+    ("blobs", 1001, "\"hex \"", "fault too many blobs\n"),
+    ("steps", 100_000, "\"fire\"", "none\n"),
+    ("steps", 100_001, "\"fire\"", "fault too many steps\n"),
+    ("rules", 1000, RULE_MEMBER, "none\n"),
+    ("rules", 1001, RULE_MEMBER, "fault too many rules\n"),
+    ("blobs", 1000, "\"\"", "fault blob 0\n"),
+    ("blobs", 1001, "\"\"", "fault too many blobs\n"),
+    ("steps", 100_000, "0", "fault step 0\n"),
+    ("steps", 100_001, "0", "fault too many steps\n"),
+    ("rules", 1000, "0", "fault rule 0\n"),
+    ("rules", 1001, "0", "fault too many rules\n"),
+];
+
+const RULE_MEMBER: &str = "{listener = 0, on = \"element play\", calls = [\"state\"]}";
 
 /// Lists at their limits and past them; a list that is too long comes before a bad member of any.
 #[test]
-fn limits(rt: HostRuntime) -> Result<(), Fail> {
-    let alloc = rt.alloc();
-    let rule = "{listener = 0, on = \"element play\", calls = [\"state\"]}";
-    let lists = [
-        (
-            "blobs",
-            "\"hex \"",
-            1000,
-            "none\n",
-            "fault too many blobs\n",
-        ),
-        (
-            "steps",
-            "\"fire\"",
-            100_000,
-            "none\n",
-            "fault too many steps\n",
-        ),
-        ("rules", rule, 1000, "none\n", "fault too many rules\n"),
-        (
-            "blobs",
-            "\"\"",
-            1000,
-            "fault blob 0\n",
-            "fault too many blobs\n",
-        ),
-        (
-            "steps",
-            "0",
-            100_000,
-            "fault step 0\n",
-            "fault too many steps\n",
-        ),
-        (
-            "rules",
-            "0",
-            1000,
-            "fault rule 0\n",
-            "fault too many rules\n",
-        ),
-    ];
-    for (key, member, most, at, past) in lists {
-        let full = list_of(alloc, key, member, most)?;
-        assert_eq!(rt; fault_of(alloc, full.as_str())?.as_str(), at, "{key}");
-        let over = list_of(alloc, key, member, most + 1)?;
-        assert_eq!(rt; fault_of(alloc, over.as_str())?.as_str(), past, "{key}");
+fn limits(rt: HostRuntime) {
+    for &(key, count, member, fault) in &LISTS {
+        let script = list_of(&rt, key, member, count);
+        expect_fault(&rt, script.as_bytes(), fault);
     }
-    for (count, means) in [(1000, "none\n"), (1001, "fault rule 0\n")] {
-        let calls = list_of(alloc, "calls", "\"state\"", count)?;
-        let rule = format!(in alloc;
-            "[[rules]]\nlistener = 0\non = \"element play\"\n{}",
-            calls.as_str()
-        )?;
-        assert_eq!(rt; fault_of(alloc, rule.as_str())?.as_str(), means, "{count}");
+}
+
+/// The front of a rule, up to its calls.
+const RULE_FRONT: &[u8] = b"[[rules]]\nlistener = 0\non = \"element play\"\n";
+
+/// How many calls a rule has, and the fault.
+const CALLS: [(usize, &str); 2] = [(1000, "none\n"), (1001, "fault rule 0\n")];
+
+#[test]
+fn limits_of_calls(rt: HostRuntime) {
+    for &(count, fault) in &CALLS {
+        let calls = list_of(&rt, "calls", "\"state\"", count);
+        expect_fault_of_two(&rt, RULE_FRONT, calls.as_bytes(), fault);
     }
-    Ok(())
 }
 
 /// Faults in the order in which they are looked for: a key, its value (a list of so many times the value
@@ -102,12 +88,11 @@ const FAULTS: [(&str, &str, usize, &str); 14] = [
     ("rules", "0", 1, "fault rule 0\n"),
 ];
 
-fn faulty(alloc: Global, key: &str, value: &str, count: usize) -> Result<String, OutOfMemory> {
+fn faulty(rt: &(impl Abort + AllocGlobal), key: &str, value: &str, count: usize) -> String {
     if count == 0 {
-        let text = format!(in alloc; "{key} = {value}\n")?;
-        Ok(text)
+        format!(in rt.alloc(); "{key} = {value}\n").expect(rt, "memory")
     } else {
-        list_of(alloc, key, value, count)
+        list_of(rt, key, value, count)
     }
 }
 
@@ -122,71 +107,36 @@ fn meaning_of_two(key: &str, other: &str, means: &'static str) -> &'static str {
 
 /// Two faults in both orders of the text: the answer is the one that is looked for first.
 #[test]
-fn pairs_of_faults(rt: HostRuntime) -> Result<(), Fail> {
-    let alloc = rt.alloc();
-    for (place, (key, value, count, means)) in FAULTS.iter().copied().enumerate() {
-        let first = faulty(alloc, key, value, count)?;
-        assert_eq!(rt; fault_of(alloc, first.as_str())?.as_str(), means);
-        for (other, value, count, _means) in FAULTS.iter().copied().skip(place + 1) {
-            let second = faulty(alloc, other, value, count)?;
+fn pairs_of_faults(rt: HostRuntime) {
+    for (place, &(key, value, count, means)) in FAULTS.iter().enumerate() {
+        let first = faulty(&rt, key, value, count);
+        expect_fault(&rt, first.as_bytes(), means);
+        for &(other, value, count, _means) in FAULTS.iter().skip(place + 1) {
+            let second = faulty(&rt, other, value, count);
             let means = meaning_of_two(key, other, means);
-            let text = format!(in alloc; "{}{}", first.as_str(), second.as_str())?;
-            assert_eq!(rt;
-                fault_of(alloc, text.as_str())?.as_str(),
-                means,
-                "{key} {other}"
-            );
-            let turned = format!(in alloc; "{}{}", second.as_str(), first.as_str())?;
-            assert_eq!(rt;
-                fault_of(alloc, turned.as_str())?.as_str(),
-                means,
-                "{other} {key}"
-            );
+            expect_fault_of_two(&rt, first.as_bytes(), second.as_bytes(), means);
+            expect_fault_of_two(&rt, second.as_bytes(), first.as_bytes(), means);
         }
     }
-    Ok(())
 }
 
 /// Too many steps beside the faults that are looked for just before and just after.
 #[test]
-fn too_many_steps(rt: HostRuntime) -> Result<(), Fail> {
-    let alloc = rt.alloc();
-    let blobs = list_of(alloc, "blobs", "0", 1001)?;
-    let steps = list_of(alloc, "steps", "0", 100_001)?;
-    let rules = list_of(alloc, "rules", "0", 1001)?;
-    let text = format!(in alloc; "{}{}", steps.as_str(), blobs.as_str())?;
-    assert_eq!(rt;
-        fault_of(alloc, text.as_str())?.as_str(),
-        "fault too many blobs\n"
-    );
-    let text = format!(in alloc; "{}{}", rules.as_str(), steps.as_str())?;
-    assert_eq!(rt;
-        fault_of(alloc, text.as_str())?.as_str(),
-        "fault too many steps\n"
-    );
-    Ok(())
+fn too_many_steps(rt: HostRuntime) {
+    let blobs = list_of(&rt, "blobs", "0", 1001);
+    let steps = list_of(&rt, "steps", "0", 100_001);
+    let rules = list_of(&rt, "rules", "0", 1001);
+    let (blobs, steps, rules) = (blobs.as_bytes(), steps.as_bytes(), rules.as_bytes());
+    expect_fault_of_two(&rt, steps, blobs, "fault too many blobs\n");
+    expect_fault_of_two(&rt, rules, steps, "fault too many steps\n");
 }
 
 /// Bytes that are not in UTF-8 are no TOML, before each fault and behind it.
 #[test]
-fn not_in_utf8(rt: HostRuntime) -> Result<(), Fail> {
-    let alloc = rt.alloc();
-    for (key, value, count, _means) in FAULTS {
-        let text = faulty(alloc, key, value, count)?;
-        let mut before = Vec::new(alloc);
-        before.extend_from_slice(b"#\xff\n")?;
-        before.extend_from_slice(text.as_bytes())?;
-        let mut behind = Vec::new(alloc);
-        behind.extend_from_slice(text.as_bytes())?;
-        behind.extend_from_slice(b"#\xff\n")?;
-        for bytes in [before.as_slice(), behind.as_slice()] {
-            assert!(rt;
-                matches!(
-                    read_script(alloc, bytes),
-                    Err(ScriptError::Fault(ScriptFault::NotToml))
-                )
-            );
-        }
+fn not_in_utf8(rt: HostRuntime) {
+    for &(key, value, count, _means) in &FAULTS {
+        let text = faulty(&rt, key, value, count);
+        expect_fault_of_two(&rt, b"#\xff\n", text.as_bytes(), "fault not toml\n");
+        expect_fault_of_two(&rt, text.as_bytes(), b"#\xff\n", "fault not toml\n");
     }
-    Ok(())
 }
