@@ -1,6 +1,6 @@
-//! Calls, printed lines, scripts of calls, and the journal.
+//! Blobs, printed lines, scripts of calls, and the journal.
 
-mod calls;
+mod blobs;
 mod journal;
 mod printed_calls;
 mod printed_lines;

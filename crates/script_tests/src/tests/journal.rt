@@ -1,10 +1,8 @@
 //! A journal: what is put in, and what is found at each place.
 
-use mse_base::OutOfMemory;
 use mse_calls::{Answer, Call, Entry, Event, EventKind, Name, Piece, Target};
 use run_journal::{EntryRef, Journal};
 use std::process::Abort;
-use std::test::Fail;
 
 /// The entries of `journal_of_calls`, and then none.
 const CALLS: [&str; 6] = [
@@ -17,7 +15,7 @@ const CALLS: [&str; 6] = [
 ];
 
 /// Calls of the script and of a listener with their answers, a step between them, and an event.
-fn journal_of_calls(rt: &impl AllocGlobal) -> Result<Journal, OutOfMemory> {
+fn journal_of_calls(rt: &(impl Abort + AllocGlobal)) -> Journal {
     let piece = Piece {
         blob: 2,
         part: Some((7, 1)),
@@ -28,13 +26,13 @@ fn journal_of_calls(rt: &impl AllocGlobal) -> Result<Journal, OutOfMemory> {
     };
     let refused = Answer::Refused(Name::InvalidState);
     let mut journal = Journal::new(rt.alloc());
-    journal.reserve(5)?;
+    journal.reserve(5).expect(rt, "memory");
     journal.push_reserved(Entry::Script(Call::AppendBuffer(3, piece), Answer::Done));
     journal.push_reserved(Entry::Step(9));
     journal.push_reserved(Entry::Script(Call::AppendBuffer(4, piece), refused));
     journal.push_reserved(Entry::Listener(5, Call::Play, Answer::Done));
     journal.push_reserved(Entry::Fired(event));
-    Ok(journal)
+    journal
 }
 
 /// The entries of `journal_of_work`, and then none.
@@ -53,9 +51,9 @@ const RUNS_OF_WORK: [&str; 11] = [
 ];
 
 /// Steps of work, with whatever ends a run of them: one on another buffer, or another entry.
-fn journal_of_work(rt: &impl AllocGlobal) -> Result<Journal, OutOfMemory> {
+fn journal_of_work(rt: &(impl Abort + AllocGlobal)) -> Journal {
     let mut journal = Journal::new(rt.alloc());
-    journal.reserve(10)?;
+    journal.reserve(10).expect(rt, "memory");
     journal.push_work_reserved(1);
     journal.push_work_reserved(1);
     journal.push_reserved(Entry::Work(1));
@@ -66,7 +64,7 @@ fn journal_of_work(rt: &impl AllocGlobal) -> Result<Journal, OutOfMemory> {
     journal.push_work_reserved(1);
     journal.push_work_reserved(1);
     journal.push_reserved(Entry::Element);
-    Ok(journal)
+    journal
 }
 
 /// Asserts what is found at each place; behind the last entry that is nothing.
@@ -79,11 +77,10 @@ fn expect_entries(rt: &(impl Abort + AllocGlobal), journal: &Journal, wanted: &[
 
 /// Entries stand one behind the other, each as it was put in.
 #[test]
-fn keeps_entries(rt: HostRuntime) -> Result<(), Fail> {
-    let calls = journal_of_calls(&rt)?;
+fn keeps_entries(rt: HostRuntime) {
+    let calls = journal_of_calls(&rt);
     expect_entries(&rt, &calls, &CALLS);
-    let work = journal_of_work(&rt)?;
+    let work = journal_of_work(&rt);
     expect_entries(&rt, &work, &RUNS_OF_WORK);
     assert!(rt; (calls.len(), work.len()) == (5, 10));
-    Ok(())
 }

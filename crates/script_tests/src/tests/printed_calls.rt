@@ -1,4 +1,4 @@
-//! Printed lines of calls.
+//! Printed lines of calls, each of which is copied first.
 
 use super::rows::{expect_printed, text, time};
 use event_text::script_line;
@@ -6,9 +6,10 @@ use mse_base::Moment;
 use mse_calls::{Answer, Call, EndKind, Mode, Piece};
 use std::process::Abort;
 
-/// Prints a call of a script that is done, and compares the line.
+/// Copies a call of a script that is done, prints the copy, and compares the line.
 fn expect_call(rt: &(impl Abort + AllocGlobal), call: &Call, wanted: &str) {
-    expect_printed(rt, script_line(rt.alloc(), call, &Answer::Done), wanted);
+    let call = call.copy().expect(rt, "memory");
+    expect_printed(rt, script_line(rt.alloc(), &call, &Answer::Done), wanted);
 }
 
 /// Calls on the source, on a buffer and on the element.
@@ -88,26 +89,25 @@ fn prints_calls(rt: HostRuntime) {
 /// Times are printed in ticks.
 #[test]
 fn prints_calls_with_times(rt: HostRuntime) {
-    let at = |ticks| Moment::At(time(&rt, ticks));
     let calls = [
         (
-            Call::SetDuration(at(-1411200000000)),
+            Call::SetDuration(Moment::At(time(&rt, -1411200000000))),
             "call duration -1411200000000: done\n",
         ),
         (
-            Call::SetLiveSeekableRange(at(1), Moment::Infinite),
+            Call::SetLiveSeekableRange(Moment::At(time(&rt, 1)), Moment::Infinite),
             "call live 1 inf: done\n",
         ),
         (
-            Call::SetAppendWindowStart(3, at(0)),
+            Call::SetAppendWindowStart(3, Moment::At(time(&rt, 0))),
             "call windowstart 3 0: done\n",
         ),
         (
-            Call::Remove(8, at(-5), Moment::Infinite),
+            Call::Remove(8, Moment::At(time(&rt, -5)), Moment::Infinite),
             "call remove 8 -5 inf: done\n",
         ),
         (
-            Call::Seek(at(249390876672000000000)),
+            Call::Seek(Moment::At(time(&rt, 249390876672000000000))),
             "call seek 249390876672000000000: done\n",
         ),
     ];
@@ -126,6 +126,10 @@ fn prints_calls_with_types(rt: HostRuntime) {
             "call add vid?o/mp4? ~?: done\n",
         ),
         (Call::AddSourceBuffer(text(&rt, "")), "call add: done\n"),
+        (
+            Call::ChangeType(3, text(&rt, "video/mp4")),
+            "call changetype 3 video/mp4: done\n",
+        ),
         (
             Call::ChangeType(9, text(&rt, "audio/aac")),
             "call changetype 9 audio/aac: done\n",

@@ -10,7 +10,7 @@ use mse_calls::{
 use std::process::Abort;
 
 /// Entries, and their lines; an entry of a step or of work prints nothing.
-const ENTRIES: [(Entry, &str); 8] = [
+const ENTRIES: [(Entry, &str); 9] = [
     (Entry::Step(1), ""),
     (Entry::Work(1), ""),
     (Entry::Element, ""),
@@ -24,6 +24,10 @@ const ENTRIES: [(Entry, &str); 8] = [
             Answer::Refused(Name::InvalidState),
         ),
         "call mode 0 sequence: refused InvalidStateError\n",
+    ),
+    (
+        Entry::Listener(0, Call::Abort(0), Answer::Done),
+        "listener 0 abort 0: done\n",
     ),
     (
         Entry::Listener(15, Call::Abort(0), Answer::Done),
@@ -59,13 +63,15 @@ fn prints_entries(rt: HostRuntime) {
     }
 }
 
-/// Prints a call that is answered, and compares the line.
+/// Copies an answer, prints the copy behind a call, and compares the line.
 fn expect_answer(rt: &(impl Abort + AllocGlobal), answer: &Answer, wanted: &str) {
-    expect_printed(rt, script_line(rt.alloc(), &Call::Play, answer), wanted);
+    let answer = answer.copy().expect(rt, "memory");
+    expect_printed(rt, script_line(rt.alloc(), &Call::Play, &answer), wanted);
 }
 
-const RANGES: [(&[Bounds], &str); 3] = [
+const RANGES: [(&[Bounds], &str); 4] = [
     (&[], "call play: ranges none\n"),
+    (&[(0, 7)], "call play: ranges [0,7)\n"),
     (&[(0, 4704000000)], "call play: ranges [0,4704000000)\n"),
     (
         &[(-7, 14112000000), (42336000000, 84672000000)],

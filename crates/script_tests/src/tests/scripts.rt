@@ -9,17 +9,25 @@ use mse_base::{OutOfMemory, Text};
 use mse_calls::{Answer, Call, Rule};
 use std::process::Abort;
 
-/// A fault as a line.
+/// The line of a fault that has a name.
+fn named(rt: &(impl Abort + AllocGlobal), kind: &str, name: &str) -> String {
+    format!(in rt.alloc(); "fault {kind} {name}\n").expect(rt, "memory")
+}
+
+/// The line of a fault that has a number.
+fn numbered(rt: &(impl Abort + AllocGlobal), kind: &str, number: usize) -> String {
+    format!(in rt.alloc(); "fault {kind} {number}\n").expect(rt, "memory")
+}
+
 fn fault_text(rt: &(impl Abort + AllocGlobal), fault: &ScriptFault) -> String {
-    let text = match fault {
-        ScriptFault::NotToml => format!(in rt.alloc(); "fault not toml\n"),
-        ScriptFault::Key(name) => format!(in rt.alloc(); "fault key {}\n", name.as_str()),
-        ScriptFault::TooMany(key) => format!(in rt.alloc(); "fault too many {}\n", key.name()),
-        ScriptFault::Blob(n) => format!(in rt.alloc(); "fault blob {n}\n"),
-        ScriptFault::Step(n) => format!(in rt.alloc(); "fault step {n}\n"),
-        ScriptFault::Rule(n) => format!(in rt.alloc(); "fault rule {n}\n"),
-    };
-    text.expect(rt, "memory")
+    match fault {
+        ScriptFault::NotToml => named(rt, "not", "toml"),
+        ScriptFault::Key(name) => named(rt, "key", name.as_str()),
+        ScriptFault::TooMany(key) => named(rt, "too many", key.name()),
+        ScriptFault::Blob(n) => numbered(rt, "blob", *n),
+        ScriptFault::Step(n) => numbered(rt, "step", *n),
+        ScriptFault::Rule(n) => numbered(rt, "rule", *n),
+    }
 }
 
 /// A script, or the line of its fault.

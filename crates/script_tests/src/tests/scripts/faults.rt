@@ -46,6 +46,12 @@ const LISTS: [(&str, usize, &str, &str); 12] = [
 
 const RULE_MEMBER: &str = "{listener = 0, on = \"element play\", calls = [\"state\"]}";
 
+/// The front of a rule, up to its calls.
+const RULE_FRONT: &[u8] = b"[[rules]]\nlistener = 0\non = \"element play\"\n";
+
+/// How many calls a rule has, and the fault.
+const CALLS: [(usize, &str); 2] = [(1000, "none\n"), (1001, "fault rule 0\n")];
+
 /// Lists at their limits and past them; a list that is too long comes before a bad member of any.
 #[test]
 fn limits(rt: HostRuntime) {
@@ -53,16 +59,6 @@ fn limits(rt: HostRuntime) {
         let script = list_of(&rt, key, member, count);
         expect_fault(&rt, script.as_bytes(), fault);
     }
-}
-
-/// The front of a rule, up to its calls.
-const RULE_FRONT: &[u8] = b"[[rules]]\nlistener = 0\non = \"element play\"\n";
-
-/// How many calls a rule has, and the fault.
-const CALLS: [(usize, &str); 2] = [(1000, "none\n"), (1001, "fault rule 0\n")];
-
-#[test]
-fn limits_of_calls(rt: HostRuntime) {
     for &(count, fault) in &CALLS {
         let calls = list_of(&rt, "calls", "\"state\"", count);
         expect_fault_of_two(&rt, RULE_FRONT, calls.as_bytes(), fault);
