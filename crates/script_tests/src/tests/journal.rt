@@ -1,7 +1,7 @@
 //! A journal: what is put in, and what is found at each place.
 
 use mse_calls::{Answer, Call, Entry, Event, EventKind, Name, Piece, Target};
-use run_journal::{EntryRef, Journal};
+use run_journal::Journal;
 use std::process::Abort;
 
 /// The entries of `journal_of_calls`, and then none.
