@@ -10,7 +10,5 @@
 pub mod laws;
 mod lines;
 mod put;
-#[cfg(test)]
-mod tests;
 
 pub use put::put_feeds;
