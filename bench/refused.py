@@ -38,8 +38,8 @@ RUNS = [
 ]
 TESTS = [
     ("engine_tests", "tests::memory::each_step_again"),
-    ("listeners", "tests::memory::heard_and_asked_again"),
-    ("listeners", "tests::dispatches::memory::cut_anywhere"),
+    ("engine_tests", "tests::rule_listeners::calls_by_rules"),
+    ("engine_tests", "tests::dispatches::cut_anywhere"),
 ]
 
 

@@ -21,6 +21,3 @@ pub use event_dispatch::{DispatchFault, dispatch};
 pub use laws::numbers_tell_events;
 pub use listener::{Listener, Note};
 pub use rule_listener::RuleListener;
-
-#[cfg(test)]
-mod tests;
