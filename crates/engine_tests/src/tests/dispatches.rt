@@ -150,16 +150,45 @@ fn note_answer(notes: &mut Vec<Note>, told: Option<Answer>)
     }
 }
 
-/// Two listeners by rules, and between them one that appends until that is refused.
-fn listeners(alloc: Global) -> Result<Vec<Box<dyn Listener>>, OutOfMemory> {
-    let mut listeners: Vec<Box<dyn Listener>> = Vec::new(alloc);
-    listeners.push(answering(alloc, &CALLS[..3])?)?;
+/// A listener: by rules, with these calls, or one that appends until that is refused.
+#[derive(Clone, Copy)]
+enum ListenerRow {
+    ByRules(&'static [Asked]),
+    Appends,
+}
+
+const LISTENERS: [ListenerRow; 3] = [
+    ListenerRow::ByRules(&[Asked::Add, Asked::Add, Asked::Add]),
+    ListenerRow::Appends,
+    ListenerRow::ByRules(&[Asked::Buffered, Asked::State]),
+];
+
+fn boxed_appender(alloc: Global) -> Result<Box<Appender>, OutOfMemory> {
     let appender = Appender {
         rules: Vec::new(alloc),
         notes: Vec::new(alloc),
     };
-    listeners.push(Box::new(alloc, appender)?)?;
-    listeners.push(answering(alloc, &CALLS[5..])?)?;
+    Ok(Box::new(alloc, appender)?)
+}
+
+fn listener_of(alloc: Global, row: ListenerRow) -> Result<Box<dyn Listener>, OutOfMemory> {
+    match row {
+        ListenerRow::ByRules(asked) => {
+            let listener = answering(alloc, asked)?;
+            Ok(listener)
+        }
+        ListenerRow::Appends => {
+            let listener = boxed_appender(alloc)?;
+            Ok(listener)
+        }
+    }
+}
+
+fn listeners(alloc: Global) -> Result<Vec<Box<dyn Listener>>, OutOfMemory> {
+    let mut listeners: Vec<Box<dyn Listener>> = Vec::new(alloc);
+    for row in &LISTENERS {
+        listeners.push(listener_of(alloc, *row)?)?;
+    }
     Ok(listeners)
 }
 
