@@ -112,9 +112,12 @@ fn first_boxes(rt: HostRuntime) {
 fn has_boxes(rt: &impl Abort, row: &[u8], boxes: &[([u8; 4], &[u8])]) -> bool {
     let mut row = open(row).expect(rt, "whole boxes");
     for (kind, payload) in boxes {
-        match row.next() {
-            Some(found) if found.kind == *kind && found.payload == *payload => (),
-            _ => return false,
+        let Some(found) = row.next() else {
+            return false;
+        };
+        let own = found.kind;
+        if own != *kind || found.payload != *payload {
+            return false;
         }
     }
     row.next().is_none()
