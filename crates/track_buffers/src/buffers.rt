@@ -238,7 +238,7 @@ impl<S: FrameStore> TrackBuffers<S> {
                 let (tracks, settings) = (&mut self.tracks, &mut self.settings);
                 let effect = process_at(tracks, settings, i, frame, &duration, self.known.used);
                 self.known.used = self.known.used - stored + used_at(&self.tracks, i);
-                self.known.watch = watch_after(&self.tracks, i, self.known.watch, &old);
+                watch_after(&self.tracks, i, &mut self.known.watch, &old);
                 self.known.last = Some(TrackPlace { id, place: i });
                 effect
             }

@@ -126,14 +126,14 @@ fn least_after(watch: &Watch, old: &Option<Span>, new: &Option<Span>) -> Option<
     }
 }
 
-/// The watch of the same time, where the track at a place has changed alone, whose own range was
-/// `old`.
+/// Makes the watch that of the same time, where the track at a place has changed alone, whose own
+/// range was `old`. Where there is no watch, nothing is written.
 pub(crate) fn watch_after<S: FrameStore>(
     tracks: &Tracks<S>,
     i: usize,
-    watch: Option<Watch>,
+    watch: &mut Option<Watch>,
     old: &Option<Span>,
-) -> Option<Watch>
+)
     requires some { 1 ≤ length tracks.now.items }
     requires gaps_from_zero { AllByRecursion (λ g. pos 0 ≤ℤ g) (gaps_of S.gap tracks.now.items) }
     ensures { (rs : List (List Span))
@@ -141,23 +141,16 @@ pub(crate) fn watch_after<S: FrameStore>(
         → AllByRecursion IsNormalized rs
         → IfSome (slice_get (ranges_in S.frames S.gap tracks.now.items) i)
         (λ r. ranges_in S.frames S.gap tracks.now.items ≡ slice_set rs i r)
-        → IfSome watch (λ w. IsWatchOf w rs)
-        → IfSome watch (λ w. IfSome (slice_get rs i) (λ r. old.now ≡ find (reaches w.t) r))
-        → IfSome result (λ w. IsWatchOf w (ranges_in S.frames S.gap tracks.now.items)) }
+        → IfSome watch.old (λ w. IsWatchOf w rs)
+        → IfSome watch.old (λ w. IfSome (slice_get rs i) (λ r. old.now ≡ find (reaches w.t) r))
+        → IfSome watch.new (λ w. IsWatchOf w (ranges_in S.frames S.gap tracks.now.items)) }
 {
-    match watch {
-        Some(watch) => {
-            let new = own_span_at(tracks, i, watch.t);
-            match least_after(&watch, old, &new) {
-                Some(least) => Some(Watch {
-                    t: watch.t,
-                    span: watch.span,
-                    least,
-                }),
-                None => Some(watch_of(tracks, watch.t)),
-            }
+    if let Some(watch) = watch {
+        let new = own_span_at(tracks, i, watch.t);
+        match least_after(watch, old, &new) {
+            Some(least) => watch.least = least,
+            None => *watch = watch_of(tracks, watch.t),
         }
-        None => None,
     }
 }
 

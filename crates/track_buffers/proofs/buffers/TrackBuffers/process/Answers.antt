@@ -26,13 +26,13 @@ process_at-effect-requires-clause-ready g c = record {
   dur_not_negative = c.requires.dur_not_negative;
 }
 
-pub watch_after-self-inside-requires-clause-some : goal.watch_after-self-inside-requires-clause-some
-watch_after-self-inside-requires-clause-some g c =
+pub watch_after-requires-clause-some : goal.watch_after-requires-clause-some
+watch_after-requires-clause-some g c =
     let long = same_length g.S.FrameStore.gap c.self.inside.tracks.items c.process_at-effect.new.tracks.items c.process_at-effect.ensures.stores.gaps in
     omega (arith, long, c.in-Some.ensures.in_range)
 
-pub watch_after-self-inside-requires-clause-gaps_from_zero : goal.watch_after-self-inside-requires-clause-gaps_from_zero
-watch_after-self-inside-requires-clause-gaps_from_zero g c =
+pub watch_after-requires-clause-gaps_from_zero : goal.watch_after-requires-clause-gaps_from_zero
+watch_after-requires-clause-gaps_from_zero g c =
     let G = g.S.FrameStore.gap in
     let b = c.self.inside in
     let us = c.process_at-effect.new.tracks.items in
@@ -61,7 +61,7 @@ invariant_of-self g c =
     let states2 : i < length (states_of F us) = rw length-map (omega (arith, long, c.in-Some.ensures.in_range)) in
     let used = used_turns (states_of F ts) (states_of F us) i c.used_at-stored.result c.used_at.result states states2 c.used_at-stored.ensures.value c.used_at.ensures.value p.tracks.frames in
     let is : (c.self.inside.known.used - c.used_at-stored.result) + c.used_at.result ≡ bytes_in (states_of F us) = omega (arith, used.within, used.turns, c.self.invariant.4) in
-    (steady_by (states_of F ts) (states_of F us) (gaps_of G ts) (gaps_of G us) b.settings _ b.gap c.self.invariant.0 p.tracks.sound_and_countable p.stores.gaps p.window_start p.window_end, subst (λ (a : Ahead). HasRoomAhead P a us) (sym c.after_frame-self-inside.ensures) (ahead_after P b.known.ahead i ts us long p.stores.spare_there c.self.invariant.1), c.watch_after-self-inside.ensures (ranges_in F G ts) low (ranges_all F G ts gaps) (ranges_changed F G b.gap ts us i c.self.invariant.0.gaps_are p.stores.gaps p.tracks.frames) c.self.invariant.2 c.own_span-old.ensures, same_place c.args.frame.track_id (states_of F ts) (states_of F us) p.tracks.ids ∙ sym c.in-Some.ensures.place, is)
+    (steady_by (states_of F ts) (states_of F us) (gaps_of G ts) (gaps_of G us) b.settings _ b.gap c.self.invariant.0 p.tracks.sound_and_countable p.stores.gaps p.window_start p.window_end, subst (λ (a : Ahead). HasRoomAhead P a us) (sym c.after_frame-self-inside.ensures) (ahead_after P b.known.ahead i ts us long p.stores.spare_there c.self.invariant.1), c.watch_after.ensures (ranges_in F G ts) low (ranges_all F G ts gaps) (ranges_changed F G b.gap ts us i c.self.invariant.0.gaps_are p.stores.gaps p.tracks.frames) c.self.invariant.2 c.own_span-old.ensures, same_place c.args.frame.track_id (states_of F ts) (states_of F us) p.tracks.ids ∙ sym c.in-Some.ensures.place, is)
 
 pub overflow_sub-self : goal.overflow_sub-self
 overflow_sub-self g c =
