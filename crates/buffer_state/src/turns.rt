@@ -7,7 +7,7 @@ ghost use Rattle.mse_base.specs.declared.track.Presentation.{Presentation};
 ghost use Rattle.parser_loop.specs.Items.{InitItem, latest_after_any, answer_item};
 ghost use Rattle.byte_stream.specs.Readings.{IsLasting};
 ghost use Rattle.byte_stream.specs.Readings as reading;
-ghost use Rattle.byte_stream.specs.Streams.{ForEachReading, StreamView, ready_of};
+ghost use Rattle.byte_stream.specs.Streams.{ForEachReading, HasReading, StreamView, ready_of};
 ghost use Rattle.track_buffers.specs.Effects.{media_result, source_effect};
 ghost use Rattle.track_buffers.specs.Media.{Media, AreEndedWithin};
 ghost use Rattle.buffer_state.specs.State.{Content, kept_buffer, next_item, surroundings};
@@ -23,7 +23,9 @@ use crate::running::Running;
 use byte_stream::{ByteFault, ByteStream, Next};
 use mse_base::{Moment, OutOfMemory, Presentation, Ticks};
 use mse_calls::{Changes, EventKind};
-use track_buffers::{MediaEffect, SourceEffect, TrackBuffers, media_track_count, no_effect};
+use track_buffers::{
+    MediaEffect, MediaFault, SourceEffect, TrackBuffers, media_track_count, no_effect,
+};
 use track_store::FrameStore;
 
 /// What the next item did.
@@ -161,6 +163,75 @@ fn answer<S: FrameStore>(
     }
 }
 
+/// The step of an append whose next item is no coded frame that is ready. It is apart, since what it
+/// keeps on the stack is much, and a step that processes a ready frame needs none of it.
+#[cold]
+#[inline(never)]
+fn item_turn<S: FrameStore>(
+    stream: &mut ByteStream,
+    media: &mut TrackBuffers<S>,
+    running: &mut Running,
+    around: &BufferContext,
+) -> Result<Reply, OutOfMemory>
+    requires none_offered { stream.old.offered ≡ None }
+    requires none_ready { ready_of stream.old ≡ 0 }
+    requires stands { HasReading stream.old }
+    requires appending { running.old ≡ Running.Append }
+    ensures answered { IsBufferAnswerIfOk
+        (kept_buffer stream.old media.old.media running.old) result
+        (kept_buffer stream.new media.new.media running.new)
+        (λ f c. append_turn_result (next_item f) (surroundings around.now) f c) }
+    ensures within_duration { IfOk result
+        (λ reply. IsStillWithin around.now.duration media.old.media reply media.new.media) }
+    ensures no_fall { IfOk result (λ reply. IsNotAfter around.now.duration reply.duration) }
+    ensures changes { IfOk result (λ reply. reply.duration_changes ≤ 1) }
+    ensures fewer { OnOk result
+        (steps_left (kept_buffer stream.new media.new.media running.new) < steps_left
+        (kept_buffer stream.old media.old.media running.old)) }
+    ensures none_offered { stream.new.offered ≡ None }
+    ensures err { OnErr result (kept_buffer stream.new media.new.media running.new
+        ≡ kept_buffer stream.old media.old.media running.old) }
+{
+    match prepare(stream, media, around.duration)? {
+        Some(step) => Ok(answer(stream, media, running, step, around)),
+        None => {
+            let next = stream.next()?;
+            let step = take_item(media, next, around.duration);
+            Ok(answer(stream, media, running, step, around))
+        }
+    }
+}
+
+/// What comes of a ready coded frame at an offset that breaks the byte stream. It is apart, as
+/// `item_turn` is.
+#[cold]
+#[inline(never)]
+fn frame_fault<S: FrameStore>(
+    stream: &mut ByteStream,
+    media: &mut TrackBuffers<S>,
+    running: &mut Running,
+    fault: MediaFault,
+    offset: u64,
+    effect: SourceEffect,
+    around: &BufferContext,
+) -> Reply
+    requires { stream.old.offered ≡ None }
+    ensures answered { IsBufferAnswer (kept_buffer stream.old media.old.media running.old) result
+        (kept_buffer stream.new media.new.media running.new)
+        (step_turn (ItemEffect.AppendError (Fault.Media fault) offset effect)
+        (surroundings around.now)) }
+    ensures within_duration { (d : Moment) → AreEndedWithin d media.old.media.tracks
+        → AreEndedWithin d media.new.media.tracks }
+    ensures duration { result.duration ≡ effect.duration }
+    ensures changes { result.duration_changes ≡ effect.duration_changes }
+    ensures leaves { IsLeftByStep (ItemEffect.AppendError (Fault.Media fault) offset effect)
+        stream.old running.old stream.new running.new }
+    ensures none_offered { stream.new.offered ≡ None }
+{
+    let step = ItemEffect::AppendError(Fault::Media(fault), offset, effect);
+    answer(stream, media, running, step, around)
+}
+
 /// One step of an append. It takes its memory first.
 pub(crate) fn append_turn<S: FrameStore>(
     stream: &mut ByteStream,
@@ -195,19 +266,11 @@ pub(crate) fn append_turn<S: FrameStore>(
         return match media.process(frame, around.duration) {
             MediaEffect::Done(effect) => Ok(effect_reply(false, effect, Changes::new())),
             MediaEffect::AppendError(fault, effect) => {
-                let step = ItemEffect::AppendError(Fault::Media(fault), offset, effect);
-                Ok(answer(stream, media, running, step, around))
+                Ok(frame_fault(stream, media, running, fault, offset, effect, around))
             }
         };
     }
-    match prepare(stream, media, around.duration)? {
-        Some(step) => Ok(answer(stream, media, running, step, around)),
-        None => {
-            let next = stream.next()?;
-            let step = take_item(media, next, around.duration);
-            Ok(answer(stream, media, running, step, around))
-        }
-    }
+    item_turn(stream, media, running, around)
 }
 
 /// A removal, in one step.

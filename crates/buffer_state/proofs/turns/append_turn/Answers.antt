@@ -1,19 +1,13 @@
 use Rattle.std.proofs.Common.{◌<◌, ◌∙◌, ap, sym, subst}
-use Rattle.mse_base.specs.declared.ticks.Moment.{Moment}
-use Rattle.mse_base.specs.Moments.{IsNotAfter}
-use Rattle.parser_loop.specs.Items.{FrameItem, latest_after_any, answer_item}
-use Rattle.byte_stream.specs.Streams.{latest_of}
-use Rattle.track_buffers.specs.Media.{Media, MediaView, AreEndedWithin}
-use Rattle.track_buffers.proofs.Durations.{within_later}
+use Rattle.parser_loop.specs.Items.{FrameItem}
+use Rattle.track_buffers.specs.Media.{Media, MediaView}
 use Rattle.buffer_state.specs.declared.running.Running.{Running}
-use Rattle.buffer_state.specs.declared.running.Running.TheVariants.{Append}
 use Rattle.buffer_state.specs.State.{Feed, Content, kept_buffer, next_item, surroundings}
 use Rattle.buffer_state.specs.Replies.{IsBufferAnswer}
 use Rattle.buffer_state.specs.Turns.{append_turn_result}
-use Rattle.buffer_state.specs.Steps.{IsLeftByStep, duration_after}
 use Rattle.buffer_state.specs.StepsLeft.{steps_left}
-use Rattle.buffer_state.proofs.AppendSteps.{append-turns, frame-breaks, refusal-turns}
-use Rattle.buffer_state.proofs.StepsLeft.{fewer, fewer-given}
+use Rattle.buffer_state.proofs.AppendSteps.{frame-breaks}
+use Rattle.buffer_state.proofs.StepsLeft.{fewer-given}
 use Rattle.buffer_state.proofs.turns.append_turn.Goals as goal
 
 pub returns-in-Done-clause-fewer : goal.returns-in-Done-clause-fewer
@@ -25,36 +19,5 @@ returns-in-Done-clause-fewer g c =
 pub returns-in-AppendError-clause-answered : goal.returns-in-AppendError-clause-answered
 returns-in-AppendError-clause-answered g c =
     let a = surroundings c.args.around.now in
-    let turned = frame-breaks c.args.stream.now c.next_frame.new.self c.answer.new.stream c.watch.new.self.media c.process.new.self.media c.answer.new.media.media c.args.running.now c.answer.new.running c.in_ok-frame.frame c.in_ok-frame.offset c.in-AppendError.fault c.in-AppendError.effect c.answer.result a c.in_ok-frame.ensures.item c.in_ok-frame.ensures.stands c.in_ok-frame.ensures.latest c.in-AppendError.ensures.result c.answer.ensures.answered in
-    subst (λ (m : Media). IsBufferAnswer (kept_buffer c.args.stream.now m c.args.running.now) c.answer.result (kept_buffer c.answer.new.stream c.answer.new.media.media c.answer.new.running) (λ (f : Feed) (d : Content). append_turn_result (next_item f) a f d)) (ap (λ (v : MediaView). v.media) c.watch.ensures ∙ c.in_ok-reserve_frames.ensures.media) turned
-
--- the segment that comes next is refused; the media is as before it was judged
-pub returns-in-Some-clause-answered : goal.returns-in-Some-clause-answered
-returns-in-Some-clause-answered g c =
-    let a = surroundings c.args.around.now in
-    let turned = refusal-turns c.args.stream.now c.answer-in-Some.new.stream c.prepare.new.media.media c.answer-in-Some.new.media.media c.args.running.now c.answer-in-Some.new.running c.in-Some.step c.answer-in-Some.result a (λ r s. rw c.in-Some.is at (c.in_ok-step.ensures.prepared r s)) c.answer-in-Some.ensures.answered in
-    subst (λ (m : Media). IsBufferAnswer (kept_buffer c.args.stream.now m c.args.running.now) c.answer-in-Some.result (kept_buffer c.answer-in-Some.new.stream c.answer-in-Some.new.media.media c.answer-in-Some.new.running) (λ (f : Feed) (d : Content). append_turn_result (next_item f) a f d)) c.in_ok-step.ensures.media turned
-
--- what ended within the duration ends within the one that the refused segment tells
-pub returns-in-Some-clause-within_duration : goal.returns-in-Some-clause-within_duration
-returns-in-Some-clause-within_duration g c = λ h.
-    let d : Moment = c.args.around.now.duration in
-    let e : Moment = duration_after c.in-Some.step d in
-    let later : IsNotAfter d e = rw c.in-Some.is at c.in_ok-step.ensures.no_fall in
-    let was : AreEndedWithin d c.prepare.new.media.media.tracks = subst (λ (m : Media). AreEndedWithin d m.tracks) (sym c.in_ok-step.ensures.media) h in
-    subst (λ (x : Moment). AreEndedWithin x c.answer-in-Some.new.media.media.tracks) (sym c.answer-in-Some.ensures.duration) (c.answer-in-Some.ensures.within_duration e (within_later d e c.prepare.new.media.media.tracks later was))
-
--- the media is as before the reservation, and the parts of the step are put together
-pub returns-in_ok-next-in-None-clause-answered : goal.returns-in_ok-next-in-None-clause-answered
-returns-in_ok-next-in-None-clause-answered g c =
-    let a = surroundings c.args.around.now in
-    let turned = append-turns c.args.stream.now c.next.new.self c.answer-in-None.new.stream c.prepare.new.media.media c.take_item-step.new.media.media c.answer-in-None.new.media.media c.args.running.now c.answer-in-None.new.running (answer_item c.in_ok-next-in-None.next) c.take_item-step.result c.answer-in-None.result a c.in_ok-next-in-None.ensures.item c.in_ok-next-in-None.ensures.stands c.in_ok-next-in-None.ensures.latest c.take_item-step.ensures.step c.answer-in-None.ensures.answered in
-    subst (λ (m : Media). IsBufferAnswer (kept_buffer c.args.stream.now m c.args.running.now) c.answer-in-None.result (kept_buffer c.answer-in-None.new.stream c.answer-in-None.new.media.media c.answer-in-None.new.running) (λ (f : Feed) (d : Content). append_turn_result (next_item f) a f d)) c.in_ok-step.ensures.media turned
-
-pub returns-in_ok-next-in-None-clause-fewer : goal.returns-in_ok-next-in-None-clause-fewer
-returns-in_ok-next-in-None-clause-fewer g c =
-    let next = answer_item c.in_ok-next-in-None.next in
-    let latest = latest_of c.args.stream.now in
-    let leaves : IsLeftByStep c.take_item-step.result c.next.new.self Append c.answer-in-None.new.stream c.answer-in-None.new.running = subst (λ (r : Running). IsLeftByStep c.take_item-step.result c.next.new.self r c.answer-in-None.new.stream c.answer-in-None.new.running) c.requires.appending c.answer-in-None.ensures.leaves in
-    let less = fewer c.args.stream.now c.next.new.self c.answer-in-None.new.stream c.args.media.now.media c.answer-in-None.new.media.media c.answer-in-None.new.running next c.take_item-step.result (record { media = c.prepare.new.media.media; latest = latest }) (record { media = c.take_item-step.new.media.media; latest = latest_after_any latest next }) c.args.around.now.duration c.stands.ensures c.in_ok-next-in-None.ensures.stands (c.take_item-step.ensures.step latest) leaves in
-    subst (λ (r : Running). steps_left (kept_buffer c.answer-in-None.new.stream c.answer-in-None.new.media.media c.answer-in-None.new.running) < steps_left (kept_buffer c.args.stream.now c.args.media.now.media r)) (sym c.requires.appending) less
+    let turned = frame-breaks c.args.stream.now c.next_frame.new.self c.frame_fault.new.stream c.watch.new.self.media c.process.new.self.media c.frame_fault.new.media.media c.args.running.now c.frame_fault.new.running c.in_ok-frame.frame c.in_ok-frame.offset c.in-AppendError.fault c.in-AppendError.effect c.frame_fault.result a c.in_ok-frame.ensures.item c.in_ok-frame.ensures.stands c.in_ok-frame.ensures.latest c.in-AppendError.ensures.result c.frame_fault.ensures.answered in
+    subst (λ (m : Media). IsBufferAnswer (kept_buffer c.args.stream.now m c.args.running.now) c.frame_fault.result (kept_buffer c.frame_fault.new.stream c.frame_fault.new.media.media c.frame_fault.new.running) (λ (f : Feed) (d : Content). append_turn_result (next_item f) a f d)) (ap (λ (v : MediaView). v.media) c.watch.ensures ∙ c.in_ok-reserve_frames.ensures.media) turned
