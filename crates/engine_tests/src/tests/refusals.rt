@@ -364,8 +364,9 @@ const HEAD: &str = "\
 fn text_of(alloc: Global, rows: &[Row]) -> Result<String, AllocError> {
     let mut text = String::from_str(alloc, HEAD)?;
     for (line, _) in rows {
-        let step = format!(in alloc; "\"{line}\", ")?;
-        text.push_str(step.as_str())?;
+        text.push_str("\"")?;
+        text.push_str(line)?;
+        text.push_str("\", ")?;
     }
     text.push_str("]\n")?;
     Ok(text)
