@@ -1,7 +1,8 @@
 -- A step in which an initialization segment was received leaves the buffered ranges.
 use Rattle.std.proofs.Common.{◌≡◌, ℕ, false, refl, sym, subst}
-use Rattle.std.specs.Prelude.{Option, Some, None}
+use Rattle.std.specs.Prelude.{Option, Some, None, IfSome, Result, Ok, Err, IfOk}
 use Rattle.mse_base.specs.declared.frame.CodedFrame.{CodedFrame}
+use Rattle.mse_base.specs.declared.ticks.Moment.{Moment}
 use Rattle.mse_base.specs.declared.track.Presentation.{Presentation}
 use Rattle.parser_loop.specs.Items.{InitItem, FrameItem, SegmentEnd, FaultItem}
 use Rattle.byte_stream.specs.Readings.{ByteItem}
@@ -12,8 +13,9 @@ use Rattle.track_buffers.specs.Initialized.{init_result}
 use Rattle.track_buffers.specs.Frames.{frame_result}
 use Rattle.track_buffers.proofs.Received.{init_leaves, fault_not_received, frame_not_received}
 use Rattle.buffer_state.specs.declared.reply.Reply.{Reply}
+use Rattle.buffer_state.specs.declared.reply.Turned.{Turned}
 use Rattle.buffer_state.specs.State.{Feed, Content, Surroundings, KeptBuffer, Stands, next_item}
-use Rattle.buffer_state.specs.Replies.{CallResult, IsBufferAnswer, IsResult, HasRangesAfterInit}
+use Rattle.buffer_state.specs.Replies.{CallResult, IsBufferAnswer, IsResult, IsTurnIfOk, IsTurnResult, HasRangesAfterInit, reply_of}
 use Rattle.buffer_state.specs.Turns.{media_item_result, item_turn_result, append_turn_result}
 use Rattle.buffer_state.proofs.KeptBuffers.{feed_at, content_of}
 
@@ -42,7 +44,7 @@ turn_leaves (Some SegmentEnd) a f c = none_received c (append_turn_result (Some 
 turn_leaves (Some (FaultItem x at)) a f c = none_received c (append_turn_result (Some (FaultItem x at)) a f c) refl
 
 -- of what is kept, where it stands for some string
-pub leaves_ranges : (old new : KeptBuffer) (reply : Reply) (a : Surroundings) → HasReading old.stream → IsBufferAnswer old reply new (λ f c. append_turn_result (next_item f) a f c) → HasRangesAfterInit old.media reply new.media
+leaves_ranges : (old new : KeptBuffer) (reply : Reply) (a : Surroundings) → HasReading old.stream → IsBufferAnswer old reply new (λ f c. append_turn_result (next_item f) a f c) → HasRangesAfterInit old.media reply new.media
 leaves_ranges old new reply a some answers =
     let f : Feed = feed_at some.reading old.running in
     let c : Content = content_of old.media old.stream in
@@ -52,3 +54,13 @@ leaves_ranges old new reply a some answers =
     let leaves : HasRangesAfterInit old.media r.reply r.content.media = turn_leaves (next_item f) a f c in
     let told : HasRangesAfterInit old.media reply r.content.media = subst (λ (x : Reply). HasRangesAfterInit old.media x r.content.media) (sym is.replies) leaves in
     subst (λ (m : Media). HasRangesAfterInit old.media reply m) (sym is.stands.media) told
+
+-- of a turn
+turn_by : (o : Option Reply) (old new : KeptBuffer) (a : Surroundings) → HasReading old.stream → ((f : Feed) (c : Content) → Stands old f c → IsTurnResult o new (Some (append_turn_result (next_item f) a f c))) → IfSome o (λ reply. HasRangesAfterInit old.media reply new.media)
+turn_by None old new a some turns = tt
+turn_by (Some reply) old new a some turns = leaves_ranges old new reply a some turns
+
+pub turn_leaves_ranges : {E : Type 0} (r : Result Turned E) (d : Moment) (old new : KeptBuffer) (a : Surroundings) → HasReading old.stream → IsTurnIfOk d old r new (λ f c. Some (append_turn_result (next_item f) a f c))
+    → IfOk r (λ turned. IfSome (reply_of d turned) (λ reply. HasRangesAfterInit old.media reply new.media))
+turn_leaves_ranges (Ok turned) d old new a some turns = turn_by (reply_of d turned) old new a some turns
+turn_leaves_ranges (Err e) d old new a some turns = tt

@@ -2,6 +2,7 @@ pub mod KeptBuffers
 pub mod ItemsNext
 pub mod AppendSteps
 pub mod StepsLeft
+pub mod QuietTurns
 pub mod TypeChanges
 pub mod InitRanges
 pub mod Refusals

@@ -11,7 +11,7 @@ use Rattle.track_buffers.specs.Media.{Media, AreEndedWithin, no_effect}
 use Rattle.track_buffers.specs.Buffered.{buffered_of}
 use Rattle.buffer_state.specs.declared.reply.Reply.{Reply}
 use Rattle.buffer_state.specs.declared.reply.Turned.{Turned}
-use Rattle.buffer_state.specs.declared.reply.Turned.TheVariants.{Did, Idle}
+use Rattle.buffer_state.specs.declared.reply.Turned.TheVariants.{Did, Quiet, Idle}
 use Rattle.buffer_state.specs.State.{Feed, Content, Surroundings, KeptBuffer, Stands}
 
 pub record CallResult : Type 0 where
@@ -54,6 +54,10 @@ effect_reply reopened e events = record {
 -- events at the buffer alone
 abbrev pub event_reply : Bool → Moment → List EventKind → Reply
 event_reply reopened duration events = effect_reply reopened (no_effect duration) events
+
+-- nothing at all, where the duration is this
+abbrev pub quiet_reply : Moment → Reply
+quiet_reply duration = event_reply false duration []
 
 -- an append error (3.5.3): its events at the buffer, and the end of the source with a decode error
 abbrev pub error_reply : FaultView → SourceEffect → Reply
@@ -109,26 +113,29 @@ HasRangesAfterInit old reply new =
     reply.received_init ≡ true → (ended : Bool)
     → buffered_of ended new ≡ (if reply.activated then [] else buffered_of ended old)
 
+-- ---- turns
+
+-- what a turn replied, if something ran, where the duration was this
+abbrev pub reply_of : Moment → Turned → Option Reply
+reply_of duration (Did reply) = Some reply
+reply_of duration Quiet = Some (quiet_reply duration)
+reply_of duration Idle = None
+
 -- something ran, or nothing did
-abbrev pub IsTurnResult : Turned → KeptBuffer → Option CallResult → Type 0
-IsTurnResult (Did reply) k None = ⊥
-IsTurnResult (Did reply) k (Some result) = IsResult reply k result
-IsTurnResult Idle k None = Unit {0}
-IsTurnResult Idle k (Some result) = ⊥
+abbrev pub IsTurnResult : Option Reply → KeptBuffer → Option CallResult → Type 0
+IsTurnResult (Some reply) k None = ⊥
+IsTurnResult (Some reply) k (Some result) = IsResult reply k result
+IsTurnResult None k None = Unit {0}
+IsTurnResult None k (Some result) = ⊥
 
 -- the same of a turn, for every feed and content that was stood for, where there is memory
-abbrev pub IsTurnIfOk : {E : Type 0} → KeptBuffer → Result Turned E → KeptBuffer
+abbrev pub IsTurnIfOk : {E : Type 0} → Moment → KeptBuffer → Result Turned E → KeptBuffer
     → (Feed → Content → Option CallResult) → Type 0
-IsTurnIfOk old result new turn =
+IsTurnIfOk duration old result new turn =
     (f : Feed) (c : Content) → Stands old f c
-    → IfOk result (λ turned. IsTurnResult turned new (turn f c))
-
--- what is said of a reply, said of a turn
-abbrev pub IfDid : Turned → (Reply → Type 0) → Type 0
-IfDid (Did reply) P = P reply
-IfDid Idle P = Unit {0}
+    → IfOk result (λ turned. IsTurnResult (reply_of duration turned) new (turn f c))
 
 -- how often the duration changed in a turn
-abbrev pub changes_of : Turned → ℕ
-changes_of (Did reply) = reply.duration_changes
-changes_of Idle = 0
+abbrev pub changes_of : Option Reply → ℕ
+changes_of (Some reply) = reply.duration_changes
+changes_of None = 0

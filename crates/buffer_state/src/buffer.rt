@@ -1,4 +1,4 @@
-ghost use Rattle.std.specs.Prelude.{◌≡◌, ◌≢◌, ◌<◌, ◌≤◌, ◌^◌, pos, ◌≤ℤ◌, not, find, length, Option, Some, None, IfOk, OnErr};
+ghost use Rattle.std.specs.Prelude.{◌≡◌, ◌≢◌, ◌<◌, ◌≤◌, ◌^◌, pos, ◌≤ℤ◌, not, find, length, Option, Some, None, IfOk, IfSome, OnErr};
 ghost use Rattle.std.specs.List.{AllByRecursion};
 ghost use Rattle.mse_base.specs.declared.ticks.Moment.{Moment};
 ghost use Rattle.mse_base.specs.Moments.{IsNotAfter};
@@ -12,7 +12,7 @@ ghost use Rattle.track_buffers.specs.Media.{is_awaiting_first};
 ghost use Rattle.track_buffers.specs.Frames.{used_in, highest_start_in, highest_end_in};
 ghost use Rattle.track_buffers.specs.Buffered.{buffered_of, is_buffered_up_to};
 ghost use Rattle.buffer_state.specs.State.{Feed, Content, KeptBuffer, Stands, surroundings, append_input, new_feed, phase_in, ready_in, is_updating, is_appending, is_removing};
-ghost use Rattle.buffer_state.specs.Replies.{IsDone, IsStillWithin, HasRangesAfterInit, IsTurnIfOk, IfDid, changes_of};
+ghost use Rattle.buffer_state.specs.Replies.{IsDone, IsStillWithin, HasRangesAfterInit, IsTurnIfOk, changes_of, reply_of};
 ghost use Rattle.buffer_state.specs.Turns.{turn_result};
 ghost use Rattle.buffer_state.specs.Calls.{has_generated_timestamps, end_work_result, buffer_view};
 ghost use Rattle.buffer_state.specs.declared.buffer_context.BufferContext.{BufferContext};
@@ -289,17 +289,20 @@ impl<S: FrameStore> Buffer<S> {
     /// One step of the work that runs: the next item of an append or its end, or the whole of a
     /// removal. It takes its memory first; an `Err` changes nothing.
     pub fn turn(&mut self, around: &BufferContext) -> Result<Turned, OutOfMemory>
-        ensures turned { IsTurnIfOk self.old result self.new
+        ensures turned { IsTurnIfOk around.now.duration self.old result self.new
             (turn_result (surroundings around.now)) }
-        ensures idle { IfOk result (λ turned. IsIdle turned self.old self.new) }
-        ensures fewer { IfOk result (λ turned. IsFewer turned self.old self.new) }
-        ensures changes { IfOk result (λ turned. changes_of turned ≤ 1) }
+        ensures idle { IfOk result
+            (λ turned. IsIdle (reply_of around.now.duration turned) self.old self.new) }
+        ensures fewer { IfOk result
+            (λ turned. IsFewer (reply_of around.now.duration turned) self.old self.new) }
+        ensures changes { IfOk result
+            (λ turned. changes_of (reply_of around.now.duration turned) ≤ 1) }
         ensures within_duration { IfOk result
-            (λ turned. IfDid turned
+            (λ turned. IfSome (reply_of around.now.duration turned)
             (λ reply. IsStillWithin around.now.duration self.old.media reply self.new.media)) }
-        ensures no_fall { IfOk result (λ turned. IfDid turned
+        ensures no_fall { IfOk result (λ turned. IfSome (reply_of around.now.duration turned)
             (λ reply. IsNotAfter around.now.duration reply.duration)) }
-        ensures ranges { IfOk result (λ turned. IfDid turned
+        ensures ranges { IfOk result (λ turned. IfSome (reply_of around.now.duration turned)
             (λ reply. HasRangesAfterInit self.old.media reply self.new.media)) }
         ensures err { OnErr result (self.new ≡ self.old) }
     {
@@ -308,13 +311,7 @@ impl<S: FrameStore> Buffer<S> {
             Running::Append => {
                 // that the stream stands for some string is used where a segment is received
                 self.stream.stands();
-                let reply = turns::append_turn(
-                    &mut self.stream,
-                    &mut self.media,
-                    &mut self.running,
-                    around,
-                )?;
-                Ok(Turned::Did(reply))
+                turns::append_turn(&mut self.stream, &mut self.media, &mut self.running, around)
             }
             Running::Removal { start, end } => {
                 let (start, end) = (*start, *end);

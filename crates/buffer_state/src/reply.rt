@@ -32,8 +32,10 @@ pub struct Reply {
 /// What one step of running work did.
 #[derive(Debug, Drop)]
 pub enum Turned {
-    /// Something ran.
+    /// Something ran, and this came of it.
     Did(Reply),
+    /// Something ran of which nothing comes, as of each plain coded frame.
+    Quiet,
     /// Nothing runs.
     Idle,
 }

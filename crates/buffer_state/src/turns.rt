@@ -11,14 +11,14 @@ ghost use Rattle.byte_stream.specs.Streams.{ForEachReading, HasReading, StreamVi
 ghost use Rattle.track_buffers.specs.Effects.{media_result, source_effect};
 ghost use Rattle.track_buffers.specs.Media.{Media, AreEndedWithin};
 ghost use Rattle.buffer_state.specs.State.{Content, kept_buffer, next_item, surroundings};
-ghost use Rattle.buffer_state.specs.Replies.{IsBufferAnswer, IsBufferAnswerIfOk, IsStillWithin};
+ghost use Rattle.buffer_state.specs.Replies.{IsBufferAnswer, IsBufferAnswerIfOk, IsStillWithin, IsTurnIfOk, changes_of, reply_of};
 ghost use Rattle.buffer_state.specs.Turns.{append_turn_result, removal_turn_result, media_item_result};
-ghost use Rattle.buffer_state.specs.Steps.{IsReadyFor, IsPrepared, IsLeftByStep, Took, content_at, step_result, step_of_item, duration_after, changes_after, step_turn};
-ghost use Rattle.buffer_state.specs.StepsLeft.{steps_left};
+ghost use Rattle.buffer_state.specs.Steps.{is_quiet, IsReadyFor, IsPrepared, IsLeftByStep, Took, content_at, step_result, step_of_item, duration_after, changes_after, step_turn};
+ghost use Rattle.buffer_state.specs.StepsLeft.{IsFewer, IsIdle, steps_left};
 
 use crate::buffer_context::BufferContext;
 use crate::faults::{Fault, fault_view};
-use crate::reply::{Reply, effect_reply, error_reply, event_reply, two};
+use crate::reply::{Reply, Turned, effect_reply, error_reply, event_reply, two};
 use crate::running::Running;
 use byte_stream::{ByteFault, ByteStream, Next};
 use mse_base::{Moment, OutOfMemory, Presentation, Ticks};
@@ -232,26 +232,40 @@ fn frame_fault<S: FrameStore>(
     answer(stream, media, running, step, around)
 }
 
+/// Whether nothing comes at the source, where this is the duration.
+fn is_quiet(effect: &SourceEffect, duration: &Moment) -> bool
+    ensures { result ≡ is_quiet effect.now duration.now }
+{
+    effect.duration_changes == 0
+        && !effect.activated
+        && !effect.received_init
+        && effect.duration == *duration
+}
+
 /// One step of an append. It takes its memory first.
 pub(crate) fn append_turn<S: FrameStore>(
     stream: &mut ByteStream,
     media: &mut TrackBuffers<S>,
     running: &mut Running,
     around: &BufferContext,
-) -> Result<Reply, OutOfMemory>
+) -> Result<Turned, OutOfMemory>
     requires none_offered { stream.old.offered ≡ None }
     requires appending { running.old ≡ Running.Append }
-    ensures answered { IsBufferAnswerIfOk
+    ensures answered { IsTurnIfOk around.now.duration
         (kept_buffer stream.old media.old.media running.old) result
         (kept_buffer stream.new media.new.media running.new)
-        (λ f c. append_turn_result (next_item f) (surroundings around.now) f c) }
-    ensures within_duration { IfOk result
-        (λ reply. IsStillWithin around.now.duration media.old.media reply media.new.media) }
-    ensures no_fall { IfOk result (λ reply. IsNotAfter around.now.duration reply.duration) }
-    ensures changes { IfOk result (λ reply. reply.duration_changes ≤ 1) }
-    ensures fewer { OnOk result
-        (steps_left (kept_buffer stream.new media.new.media running.new) < steps_left
-        (kept_buffer stream.old media.old.media running.old)) }
+        (λ f c. Some (append_turn_result (next_item f) (surroundings around.now) f c)) }
+    ensures idle { IfOk result (λ turned. IsIdle (reply_of around.now.duration turned)
+        (kept_buffer stream.old media.old.media running.old)
+        (kept_buffer stream.new media.new.media running.new)) }
+    ensures within_duration { IfOk result (λ turned. IfSome (reply_of around.now.duration turned)
+        (λ reply. IsStillWithin around.now.duration media.old.media reply media.new.media)) }
+    ensures no_fall { IfOk result (λ turned. IfSome (reply_of around.now.duration turned)
+        (λ reply. IsNotAfter around.now.duration reply.duration)) }
+    ensures changes { IfOk result (λ turned. changes_of (reply_of around.now.duration turned) ≤ 1) }
+    ensures fewer { IfOk result (λ turned. IsFewer (reply_of around.now.duration turned)
+        (kept_buffer stream.old media.old.media running.old)
+        (kept_buffer stream.new media.new.media running.new)) }
     ensures none_offered { stream.new.offered ≡ None }
     ensures err { OnErr result (kept_buffer stream.new media.new.media running.new
         ≡ kept_buffer stream.old media.old.media running.old) }
@@ -260,20 +274,32 @@ pub(crate) fn append_turn<S: FrameStore>(
     stream.stands();
     if stream.ready_frames() > 0 {
         media.reserve_frames(1)?;
-        let (frame, offset) = stream.next_frame()?;
+        let Ok((frame, offset)) = stream.next_frame() else {
+            return Err(OutOfMemory);
+        };
         // what is buffered at the position is looked up behind the step
         media.watch(around.position);
         return match media.process(frame, around.duration) {
-            MediaEffect::Done(effect) => Ok(effect_reply(false, effect, Changes::new())),
+            MediaEffect::Done(effect) => {
+                if is_quiet(&effect, &around.duration) {
+                    Ok(Turned::Quiet)
+                } else {
+                    Ok(Turned::Did(effect_reply(false, effect, Changes::new())))
+                }
+            }
             MediaEffect::AppendError(fault, effect) => {
-                Ok(frame_fault(stream, media, running, fault, offset, effect, around))
+                let reply = frame_fault(stream, media, running, fault, offset, effect, around);
+                Ok(Turned::Did(reply))
             }
         };
     }
-    item_turn(stream, media, running, around)
+    let reply = item_turn(stream, media, running, around)?;
+    Ok(Turned::Did(reply))
 }
 
-/// A removal, in one step.
+/// A removal, in one step. It is apart, as `item_turn` is.
+#[cold]
+#[inline(never)]
 pub(crate) fn removal_turn<S: FrameStore>(
     media: &mut TrackBuffers<S>,
     running: &mut Running,

@@ -9,7 +9,6 @@ use Rattle.mse_calls.specs.declared.events.Event.{Event}
 use Rattle.mse_calls.specs.declared.views.BufferView.{BufferView}
 use Rattle.mse_calls.specs.declared.views.View.{View}
 use Rattle.buffer_state.specs.declared.reply.Reply.{Reply}
-use Rattle.buffer_state.specs.declared.reply.Turned.TheVariants as turned
 use Rattle.buffer_state.specs.State.{Surroundings}
 use Rattle.element_seek.specs.declared.scene.Scene.{Scene}
 use Rattle.element_seek.specs.State.{player_change}
@@ -35,26 +34,26 @@ use Rattle.mse_engine.proofs.ElementEffects.{begun, scene_step}
 
 -- ---- work
 
-work_by : (x : Option BuffersResult) (k : ℕ) (r : Reply) (ks : KeptBuffers) (old new : KeptEngine) (st : State) → IsBuffersTurn (turned.Did r) ks x
+work_by : (x : Option BuffersResult) (k : ℕ) (r : Reply) (ks : KeptBuffers) (old new : KeptEngine) (st : State) → IsBuffersTurn (Some r) ks x
     → ((meant : BuffersResult) → IsBuffersResult r ks meant → Stands new (step (turn_effect k meant (core_of st)).core (turn_effect k meant (core_of st)).signals st.element))
     → IsWork worked.Did old new (work_result (option_map (λ result. turn_effect k result (core_of st)) x) st)
 work_by None k r ks old new st h made = absurd h
 work_by (Some meant) k r ks old new st h made = made meant h
 
-idle_by : (x : Option BuffersResult) (k : ℕ) (ks : KeptBuffers) (old new : KeptEngine) (st : State) → IsBuffersTurn turned.Idle ks x → new ≡ old
+idle_by : (x : Option BuffersResult) (k : ℕ) (ks : KeptBuffers) (old new : KeptEngine) (st : State) → IsBuffersTurn None ks x → new ≡ old
     → IsWork worked.Idle old new (work_result (option_map (λ result. turn_effect k result (core_of st)) x) st)
 idle_by None k ks old new st h same = same
 idle_by (Some meant) k ks old new st h same = absurd h
 
 pub work_did : (k : ℕ) (around : Surroundings) (r : Reply) (source source2 : MediaSource) (e start new : ElementState) (ks left : KeptBuffers) (st : State)
-    → start ≡ e → around ≡ surroundings_in k (core_source source start) → IsBuffersTurn (turned.Did r) left (buffers_turn k around st.buffers)
+    → start ≡ e → around ≡ surroundings_in k (core_source source start) → IsBuffersTurn (Some r) left (buffers_turn k around st.buffers)
     → source2 ≡ media_source_after k r source → new ≡ after_settling (view_of source2 left) (after_signals (view_of source2 left) (work_signals k r (core_source source start)) start)
     → Stands (kept_engine source ks e) st
     → IsWork worked.Did (kept_engine source ks e) (kept_engine source2 left new) (after_work k st)
 work_did k around r source source2 e start new ks left st ready there turns is end h =
     let old : KeptEngine = kept_engine source ks e in
     let at : around ≡ surroundings_in k (core_source source e) = there ∙ ap (λ (x : ElementState). surroundings_in k (core_source source x)) ready in
-    let now = subst (λ (x : Surroundings). IsBuffersTurn (turned.Did r) left (buffers_turn k x st.buffers)) at turns in
+    let now = subst (λ (x : Surroundings). IsBuffersTurn (Some r) left (buffers_turn k x st.buffers)) at turns in
     stood (λ (x : State). IsWork worked.Did old (kept_engine source2 left new) (after_work k x)) old st h
     (work_by (buffers_turn k (surroundings_in k (core_source source e)) st.buffers) k r left old (kept_engine source2 left new) (state_at old st.buffers) now (λ meant found.
     let m : CoreEffect = turn_effect k meant (core_of (state_at old st.buffers)) in
@@ -62,13 +61,13 @@ work_did k around r source source2 e start new ks left st ready there turns is e
     step_stands source2 left (after_signals (view_of source2 left) m.signals e) new m.core m.signals e (is ∙ ap (λ (x : Reply). media_source_after k x source) found.replies) found.stand refl told))
 
 pub work_idle : (k : ℕ) (around : Surroundings) (source : MediaSource) (e start : ElementState) (old new : KeptBuffers) (st : State)
-    → start ≡ e → around ≡ surroundings_in k (core_source source start) → IsBuffersTurn turned.Idle new (buffers_turn k around st.buffers)
+    → start ≡ e → around ≡ surroundings_in k (core_source source start) → IsBuffersTurn None new (buffers_turn k around st.buffers)
     → new ≡ old → Stands (kept_engine source old e) st
     → IsWork worked.Idle (kept_engine source old e) (kept_engine source new start) (after_work k st)
 work_idle k around source e start old new st ready there turns same h =
     let kept : KeptEngine = kept_engine source old e in
     let at : around ≡ surroundings_in k (core_source source e) = there ∙ ap (λ (x : ElementState). surroundings_in k (core_source source x)) ready in
-    let now = subst (λ (x : Surroundings). IsBuffersTurn turned.Idle new (buffers_turn k x st.buffers)) at turns in
+    let now = subst (λ (x : Surroundings). IsBuffersTurn None new (buffers_turn k x st.buffers)) at turns in
     stood (λ (x : State). IsWork worked.Idle kept (kept_engine source new start) (after_work k x)) kept st h
     (idle_by (buffers_turn k (surroundings_in k (core_source source e)) st.buffers) k new kept (kept_engine source new start) (state_at kept st.buffers) now (λ i. kept_engine source (same i) (ready i)))
 

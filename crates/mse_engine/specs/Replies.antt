@@ -1,6 +1,5 @@
 -- What comes of a source buffer's reply at the source and at the element, in order.
-use Rattle.std.specs.Prelude.{ℕ, ◌==◌, Bool, false, not, ◌&&◌, List, [], ◌∷◌, ◌++◌, length, replicate, Option, Some, None, is_none, unwrap_or, if◌then◌else◌}
-use Rattle.mse_base.specs.Moments.{is_same_moment}
+use Rattle.std.specs.Prelude.{ℕ, ◌==◌, Bool, false, not, ◌&&◌, List, [], ◌∷◌, ◌++◌, replicate, Option, Some, None, unwrap_or, if◌then◌else◌}
 use Rattle.mse_calls.specs.Ready.{is_ended}
 use Rattle.mse_calls.specs.declared.answers.Ready.{Ready}
 use Rattle.mse_calls.specs.declared.answers.Ready.TheVariants.{Opened, Ended}
@@ -96,19 +95,6 @@ media_source_after k r source = record source {
   state = state_after k r source.state;
   fault = fault_after r.fault source.fault;
 }
-
--- ---- whether anything comes of it
-
--- nothing at the source, at the element and in the queue
-abbrev pub is_quiet : Reply → SourceState → Bool
-is_quiet r s =
-    not r.reopened
-    && (not r.activated
-    && (not r.received_init
-    && (r.duration_changes == 0
-    && (length r.events == 0
-    && (is_none r.fault
-    && is_same_moment r.duration s.duration)))))
 
 -- ---- at the element and in the queue, in order
 

@@ -10,7 +10,7 @@ ghost use Rattle.element_seek.specs.Settling.{is_unchanged_by_settle_in};
 ghost use Rattle.buffer_state.specs.AllCalls.{call_view};
 ghost use Rattle.mse_engine.specs.Scenes.{SourceView};
 ghost use Rattle.mse_engine.specs.Signals.{Loaded, after_signals};
-ghost use Rattle.mse_engine.specs.Replies.{is_quiet, open_events, duration_events, call_events, fault_signals};
+ghost use Rattle.mse_engine.specs.Replies.{open_events, duration_events, call_events, fault_signals};
 ghost use Rattle.mse_engine.specs.Standing.{IsEndOfStep, IsFinished, IsReadyIfLoading, IsReadyToLoad, kept_engine, kept_scene, view_of};
 
 use crate::media_source::MediaSource;
@@ -230,48 +230,12 @@ pub(crate) fn is_blank(element: &Element) -> bool
     !element.level().has_metadata()
 }
 
-/// Whether nothing comes of a reply at the source, at the element and in the queue, as of each plain
-/// coded frame.
-fn is_quiet(source: &MediaSource, reply: &Reply) -> bool
-    ensures { result ≡ is_quiet reply.now source.now.state }
-{
-    !reply.reopened
-        && !reply.activated
-        && !reply.received_init
-        && reply.duration_changes == 0
-        && reply.events.len() == 0
-        && reply.fault.is_none()
-        && reply.duration == source.state.duration()
-}
-
 /// Does what the reply of a step of the work of the buffer of a number brings about at the source, at
 /// the element and in the queue, and ends the step. Where the element gets its metadata, `bounds` are
 /// those of what it has buffered then.
-pub(crate) fn apply_work_reply<S: FrameStore>(
-    source: &mut MediaSource,
-    buffers: &SourceBuffers<S>,
-    element: &mut Element,
-    k: u32,
-    reply: &Reply,
-    bounds: &LoadBounds,
-)
-    requires room { reply.now.duration_changes + 14 ≤ element.old.spare }
-    requires ready_to_load { IsReadyIfLoading k reply.now bounds.now source.old buffers.now.buffers
-        element.old.state }
-    ensures { IsFinished k reply.now source.old source.new buffers.now.buffers element.old.state
-        element.new.state }
-{
-    if is_quiet(source, reply) {
-        settle(source, buffers, element);
-    } else {
-        apply_work_reply_with_events(source, buffers, element, k, reply, bounds);
-    }
-}
-
-/// The same, where something comes of the reply.
 #[cold]
 #[inline(never)]
-fn apply_work_reply_with_events<S: FrameStore>(
+pub(crate) fn apply_work_reply<S: FrameStore>(
     source: &mut MediaSource,
     buffers: &SourceBuffers<S>,
     element: &mut Element,

@@ -52,13 +52,18 @@ pub(crate) fn work_on<S: FrameStore>(
     let around = around(source, element, k);
     let mut bounds = LoadBounds::NONE;
     scenes::find_bounds(source, buffers, element, &mut bounds)?;
-    match buffers.turn(k, &around)? {
-        Turned::Did(reply) => {
+    match buffers.turn(k, &around) {
+        Ok(Turned::Did(reply)) => {
             drop_stale_bounds(source, k, &reply, &mut bounds);
             apply_work_reply(source, buffers, element, k, &reply, &bounds);
             Ok(Worked::Did)
         }
-        Turned::Idle => Ok(Worked::Idle),
+        Ok(Turned::Quiet) => {
+            settle(source, buffers, element);
+            Ok(Worked::Did)
+        }
+        Ok(Turned::Idle) => Ok(Worked::Idle),
+        Err(OutOfMemory) => Err(OutOfMemory),
     }
 }
 

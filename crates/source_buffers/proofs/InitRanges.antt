@@ -1,13 +1,10 @@
 -- An initialization segment of one buffer leaves the ranges of all.
 use Rattle.std.proofs.Common.{◌≡◌, ◌∙◌, ℕ, zero, suc, ◌==◌, Bool, true, false, cond, ◌&&◌, List, [], ◌∷◌, refl, sym, ap, subst, arith}
-use Rattle.std.specs.Prelude.{Option, Some, slice_get, slice_set}
+use Rattle.std.specs.Prelude.{Option, Some, None, slice_get, slice_set, IfSome}
 use Rattle.std.proofs.lemmas.Bool.Decides.{nat_tests}
 use Rattle.mse_base.specs.declared.span.Span.{Span}
 use Rattle.buffer_state.specs.declared.reply.Reply.{Reply}
-use Rattle.buffer_state.specs.declared.reply.Turned.{Turned}
-use Rattle.buffer_state.specs.declared.reply.Turned.TheVariants.{Did, Idle}
 use Rattle.buffer_state.specs.State.{KeptBuffer}
-use Rattle.buffer_state.specs.Replies.{IfDid}
 use Rattle.source_buffers.specs.State.{KeptBuffers, in_slot, kept_media, all_kept_media}
 use Rattle.source_buffers.specs.Buffered.{AreSlotRangesLeft, AreRangesAfterInit, slot_ranges}
 
@@ -45,6 +42,6 @@ set_ranges a ended (x ∷ ks) (suc k) (suc j) old new e h = set_ranges a ended k
 leaves : (ks : KeptBuffers) (k : ℕ) (old new : Option KeptBuffer) (reply : Reply) → slice_get ks k ≡ Some old → AreSlotRangesLeft old reply new → AreRangesAfterInit k ks reply (slice_set ks k new)
 leaves ks k old new reply e h init ended j = set_ranges reply.activated ended ks k j old new e (h init ended)
 
-pub turn_leaves : (t : Turned) (ks : KeptBuffers) (k : ℕ) (old new : Option KeptBuffer) → slice_get ks k ≡ Some old → IfDid t (λ reply. AreSlotRangesLeft old reply new) → IfDid t (λ reply. AreRangesAfterInit k ks reply (slice_set ks k new))
-turn_leaves (Did reply) ks k old new e h = leaves ks k old new reply e h
-turn_leaves Idle ks k old new e h = tt
+pub turn_leaves : (t : Option Reply) (ks : KeptBuffers) (k : ℕ) (old new : Option KeptBuffer) → slice_get ks k ≡ Some old → IfSome t (λ reply. AreSlotRangesLeft old reply new) → IfSome t (λ reply. AreRangesAfterInit k ks reply (slice_set ks k new))
+turn_leaves (Some reply) ks k old new e h = leaves ks k old new reply e h
+turn_leaves None ks k old new e h = tt

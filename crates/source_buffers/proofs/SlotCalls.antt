@@ -1,16 +1,15 @@
 -- What a call on one slot has done, or a step of its work, it has done at all slots.
 use Rattle.std.proofs.Common.{◌≡◌, ◌∙◌, ℕ, ◌≤◌, false, refl, sym, ap, subst, arith}
-use Rattle.std.specs.Prelude.{Option, Some, None, slice_get, slice_set, Result, Ok, Err, IfOk}
+use Rattle.std.specs.Prelude.{Option, Some, None, slice_get, slice_set, Result, Ok, Err, IfOk, IfSome}
 use Rattle.mse_base.specs.declared.ticks.Moment.{Moment}
 use Rattle.mse_calls.specs.declared.answers.Name.{Name}
 use Rattle.mse_calls.specs.declared.answers.Name.TheVariants.{NoSuchBuffer}
 use Rattle.mse_base.specs.Moments.{IsNotAfter}
 use Rattle.buffer_state.specs.declared.reply.Reply.{Reply}
 use Rattle.buffer_state.specs.declared.reply.Turned.{Turned}
-use Rattle.buffer_state.specs.declared.reply.Turned.TheVariants.{Did, Idle}
 use Rattle.buffer_state.specs.State.{KeptBuffer, Surroundings}
 use Rattle.buffer_state.specs.StepsLeft.{IsFewer, IsIdle}
-use Rattle.buffer_state.specs.Replies.{IfDid, IsDone, IsStillWithin, IsTurnIfOk, HasRangesAfterInit, changes_of, refused_reply}
+use Rattle.buffer_state.specs.Replies.{IsDone, IsStillWithin, IsTurnIfOk, HasRangesAfterInit, changes_of, refused_reply, reply_of}
 use Rattle.buffer_state.specs.Calls.{end_work_result}
 use Rattle.buffer_state.specs.AllCalls.{CallView, IsCallDone, removed_name}
 use Rattle.buffer_state.specs.Turns.{turn_result}
@@ -65,37 +64,37 @@ removal_there reply old new a done = record {
 pub removal_refused : (reply : Reply) (name : Name) (a : Surroundings) → (removal_in_slot a None).reply ≡ refused_reply name false a.duration → reply ≡ refused_reply name false a.duration → IsDoneInSlot (removal_in_slot a) 0 a.duration None reply None
 removal_refused reply name a named is = refused_there reply name 0 a.duration (removal_in_slot a) is named refl
 
-idle_in : (t : Turned) (old new : KeptBuffer) → IsIdle t old new → IsIdleSlot t (Some old) (Some new)
-idle_in (Did reply) old new h = h
-idle_in Idle old new h = (h.0, ap (λ (k : KeptBuffer). Some k) h.1)
+idle_in : (t : Option Reply) (old new : KeptBuffer) → IsIdle t old new → IsIdleSlot t (Some old) (Some new)
+idle_in (Some reply) old new h = h
+idle_in None old new h = (h.0, ap (λ (k : KeptBuffer). Some k) h.1)
 
-fewer_in : (t : Turned) (old new : KeptBuffer) → IsFewer t old new → IsFewerSlot t (Some old) (Some new)
-fewer_in (Did reply) old new h = h
-fewer_in Idle old new h = tt
+fewer_in : (t : Option Reply) (old new : KeptBuffer) → IsFewer t old new → IsFewerSlot t (Some old) (Some new)
+fewer_in (Some reply) old new h = h
+fewer_in None old new h = tt
 
-within_in : (t : Turned) (old new : KeptBuffer) (d : Moment) → IfDid t (λ reply. IsStillWithin d old.media reply new.media) → IfDid t (λ reply. IsSlotStillWithin d (Some old) reply (Some new))
-within_in (Did reply) old new d h = h
-within_in Idle old new d h = tt
+within_in : (t : Option Reply) (old new : KeptBuffer) (d : Moment) → IfSome t (λ reply. IsStillWithin d old.media reply new.media) → IfSome t (λ reply. IsSlotStillWithin d (Some old) reply (Some new))
+within_in (Some reply) old new d h = h
+within_in None old new d h = tt
 
-ranges_in : (t : Turned) (old new : KeptBuffer) → IfDid t (λ reply. HasRangesAfterInit old.media reply new.media) → IfDid t (λ reply. AreSlotRangesLeft (Some old) reply (Some new))
-ranges_in (Did reply) old new h = h
-ranges_in Idle old new h = tt
+ranges_in : (t : Option Reply) (old new : KeptBuffer) → IfSome t (λ reply. HasRangesAfterInit old.media reply new.media) → IfSome t (λ reply. AreSlotRangesLeft (Some old) reply (Some new))
+ranges_in (Some reply) old new h = h
+ranges_in None old new h = tt
 
-pub turned_there : {E : Type 0} (r : Result Turned E) (old new : KeptBuffer) (a : Surroundings) → IsTurnIfOk old r new (turn_result a) → IfOk r (λ t. IsIdle t old new) → IfOk r (λ t. IsFewer t old new) → IfOk r (λ t. changes_of t ≤ 1)
-    → IfOk r (λ t. IfDid t (λ reply. IsStillWithin a.duration old.media reply new.media)) → IfOk r (λ t. IfDid t (λ reply. IsNotAfter a.duration reply.duration)) → IfOk r (λ t. IfDid t (λ reply. HasRangesAfterInit old.media reply new.media))
-    → IfOk r (λ t. IsTurnDoneInSlot a (Some old) t (Some new))
+pub turned_there : {E : Type 0} (r : Result Turned E) (old new : KeptBuffer) (a : Surroundings) → IsTurnIfOk a.duration old r new (turn_result a) → IfOk r (λ t. IsIdle (reply_of a.duration t) old new) → IfOk r (λ t. IsFewer (reply_of a.duration t) old new) → IfOk r (λ t. changes_of (reply_of a.duration t) ≤ 1)
+    → IfOk r (λ t. IfSome (reply_of a.duration t) (λ reply. IsStillWithin a.duration old.media reply new.media)) → IfOk r (λ t. IfSome (reply_of a.duration t) (λ reply. IsNotAfter a.duration reply.duration)) → IfOk r (λ t. IfSome (reply_of a.duration t) (λ reply. HasRangesAfterInit old.media reply new.media))
+    → IfOk r (λ t. IsTurnDoneInSlot a (Some old) (reply_of a.duration t) (Some new))
 turned_there (Ok t) old new a turned idle fewer changes within fall ranges = record {
-  turned_as = full_turn t old new a turned;
-  idle = idle_in t old new idle;
-  fewer = fewer_in t old new fewer;
+  turned_as = full_turn (reply_of a.duration t) old new a turned;
+  idle = idle_in (reply_of a.duration t) old new idle;
+  fewer = fewer_in (reply_of a.duration t) old new fewer;
   changes = changes;
-  within_duration = within_in t old new a.duration within;
+  within_duration = within_in (reply_of a.duration t) old new a.duration within;
   no_fall = fall;
-  ranges = ranges_in t old new ranges;
+  ranges = ranges_in (reply_of a.duration t) old new ranges;
 }
 turned_there (Err e) old new a turned idle fewer changes within fall ranges = tt
 
-pub nothing_there : (a : Surroundings) → IsTurnDoneInSlot a None Idle None
+pub nothing_there : (a : Surroundings) → IsTurnDoneInSlot a None None None
 nothing_there a = record { turned_as = empty_turn a; idle = (refl, refl); fewer = tt; changes = omega arith; within_duration = tt; no_fall = tt; ranges = tt }
 
 -- ---- in all slots
@@ -129,7 +128,7 @@ none_in_all ks i reply meant most d none is =
       no_init = ap (λ (r : Reply). r.received_init) is;
     }
 
-pub turn_in_all : (ks : KeptBuffers) (i : ℕ) (old new : Option KeptBuffer) (t : Turned) (a : Surroundings) → slice_get ks i ≡ Some old → IsTurnDoneInSlot a old t new → IsTurnDoneInAll i a ks t (slice_set ks i new)
+pub turn_in_all : (ks : KeptBuffers) (i : ℕ) (old new : Option KeptBuffer) (t : Option Reply) (a : Surroundings) → slice_get ks i ≡ Some old → IsTurnDoneInSlot a old t new → IsTurnDoneInAll i a ks t (slice_set ks i new)
 turn_in_all ks i old new t a there done = record {
   turned_as = slot_turn t ks i a old new there done.turned_as;
   idle = turn_idle t ks i old new there done.idle;
@@ -140,5 +139,5 @@ turn_in_all ks i old new t a there done = record {
   ranges = turn_leaves t ks i old new there done.ranges;
 }
 
-pub nothing_in_all : (ks : KeptBuffers) (i : ℕ) (a : Surroundings) → slice_get ks i ≡ None → IsTurnDoneInAll i a ks Idle ks
+pub nothing_in_all : (ks : KeptBuffers) (i : ℕ) (a : Surroundings) → slice_get ks i ≡ None → IsTurnDoneInAll i a ks None ks
 nothing_in_all ks i a none = record { turned_as = none_turn ks i a none; idle = (updating_none ks i none, refl); fewer = tt; changes = omega arith; within_duration = tt; no_fall = tt; ranges = tt }

@@ -1,6 +1,6 @@
 -- A call on one slot keeps each frame of all slots within the duration, and lowers the steps that are left.
 use Rattle.std.proofs.Common.{◌≡◌, ◌∙◌, ℕ, zero, suc, ◌+◌, ◌<◌, false, List, [], ◌∷◌, ◌++◌, refl, sym, ap, subst, arith}
-use Rattle.std.specs.Prelude.{Option, Some, None, slice_get, slice_set}
+use Rattle.std.specs.Prelude.{Option, Some, None, slice_get, slice_set, IfSome}
 use Rattle.std.specs.Option.{option_flatten}
 use Rattle.std.proofs.lemmas.List.Sums.{sum_by-cons}
 use Rattle.mse_base.specs.declared.ticks.Moment.{Moment}
@@ -8,11 +8,8 @@ use Rattle.mse_base.specs.Moments.{IsNotAfter}
 use Rattle.track_buffers.specs.Media.{Media}
 use Rattle.track_buffers.proofs.Durations.{within_later, not_after_itself}
 use Rattle.buffer_state.specs.declared.reply.Reply.{Reply}
-use Rattle.buffer_state.specs.declared.reply.Turned.{Turned}
-use Rattle.buffer_state.specs.declared.reply.Turned.TheVariants.{Did, Idle}
 use Rattle.buffer_state.specs.AllCalls.{CallView}
 use Rattle.buffer_state.specs.State.{KeptBuffer}
-use Rattle.buffer_state.specs.Replies.{IfDid}
 use Rattle.source_buffers.specs.State.{KeptBuffers, kept_media, kept_running, all_kept_media, all_kept_running}
 use Rattle.source_buffers.specs.All.{IsSlotWithin, IsSlotStillWithin, AreSlotsWithin, AreStillWithin, IsFewerSlot, IsIdleSlot, AreFewer, AreIdle, is_updating_slot, is_updating_at, slot_steps_left, all_steps_left, most_changes_in_slot, most_changes_of}
 
@@ -49,9 +46,9 @@ stays ks i d old new reply e same own = stays_later ks i d old new reply e (not_
 pub none_stays : (ks : KeptBuffers) (d : Moment) (reply : Reply) → reply.duration ≡ d → AreStillWithin d ks reply ks
 none_stays ks d reply same all = subst (λ (x : Moment). AreSlotsWithin x (all_kept_media ks)) (sym same) all
 
-pub turn_stays : (t : Turned) (ks : KeptBuffers) (i : ℕ) (d : Moment) (old new : Option KeptBuffer) → slice_get ks i ≡ Some old → IfDid t (λ reply. IsNotAfter d reply.duration) → IfDid t (λ reply. IsSlotStillWithin d old reply new) → IfDid t (λ reply. AreStillWithin d ks reply (slice_set ks i new))
-turn_stays (Did reply) ks i d old new e later own = stays_later ks i d old new reply e later own
-turn_stays Idle ks i d old new e later own = tt
+pub turn_stays : (t : Option Reply) (ks : KeptBuffers) (i : ℕ) (d : Moment) (old new : Option KeptBuffer) → slice_get ks i ≡ Some old → IfSome t (λ reply. IsNotAfter d reply.duration) → IfSome t (λ reply. IsSlotStillWithin d old reply new) → IfSome t (λ reply. AreStillWithin d ks reply (slice_set ks i new))
+turn_stays (Some reply) ks i d old new e later own = stays_later ks i d old new reply e later own
+turn_stays None ks i d old new e later own = tt
 
 -- one more buffer
 pub within_more : (d : Moment) (ks : KeptBuffers) (k : Option KeptBuffer) → AreSlotsWithin d (all_kept_media ks) → IsSlotWithin d (kept_media k) → AreSlotsWithin d (all_kept_media (ks ++ k ∷ []))
@@ -75,9 +72,9 @@ set_same [] i k e = refl
 set_same (x ∷ ks) zero k e = let same : x ≡ k = cc in ap (λ (z : Option KeptBuffer). z ∷ ks) (sym same)
 set_same (x ∷ ks) (suc i) k e = ap (λ (zs : KeptBuffers). x ∷ zs) (set_same ks i k e)
 
-pub turn_idle : (t : Turned) (ks : KeptBuffers) (i : ℕ) (old new : Option KeptBuffer) → slice_get ks i ≡ Some old → IsIdleSlot t old new → AreIdle t i ks (slice_set ks i new)
-turn_idle (Did reply) ks i old new e h = updating_there ks i old e ∙ h
-turn_idle Idle ks i old new e h = (updating_there ks i old e ∙ h.0, ap (λ (z : Option KeptBuffer). slice_set ks i z) h.1 ∙ set_same ks i old e)
+pub turn_idle : (t : Option Reply) (ks : KeptBuffers) (i : ℕ) (old new : Option KeptBuffer) → slice_get ks i ≡ Some old → IsIdleSlot t old new → AreIdle t i ks (slice_set ks i new)
+turn_idle (Some reply) ks i old new e h = updating_there ks i old e ∙ h
+turn_idle None ks i old new e h = (updating_there ks i old e ∙ h.0, ap (λ (z : Option KeptBuffer). slice_set ks i z) h.1 ∙ set_same ks i old e)
 
 -- ---- steps that are left
 
@@ -97,9 +94,9 @@ fewer_at (x ∷ ks) (suc i) old new e h =
     let fewer : all_steps_left (x ∷ slice_set ks i new) < all_steps_left (x ∷ ks) = omega (arith, rest, after, before) in
     fewer
 
-pub turn_fewer : (t : Turned) (ks : KeptBuffers) (i : ℕ) (old new : Option KeptBuffer) → slice_get ks i ≡ Some old → IsFewerSlot t old new → AreFewer t ks (slice_set ks i new)
-turn_fewer (Did reply) ks i old new e h = fewer_at ks i old new e h
-turn_fewer Idle ks i old new e h = tt
+pub turn_fewer : (t : Option Reply) (ks : KeptBuffers) (i : ℕ) (old new : Option KeptBuffer) → slice_get ks i ≡ Some old → IsFewerSlot t old new → AreFewer t ks (slice_set ks i new)
+turn_fewer (Some reply) ks i old new e h = fewer_at ks i old new e h
+turn_fewer None ks i old new e h = tt
 
 -- how often a call changes the duration at most
 pub most_there : (ks : KeptBuffers) (i : ℕ) (call : CallView) (k : Option KeptBuffer) → slice_get ks i ≡ Some k → most_changes_of i call ks ≡ most_changes_in_slot call k

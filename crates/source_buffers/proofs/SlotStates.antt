@@ -5,8 +5,6 @@ use Rattle.mse_base.specs.declared.ticks.Moment.{Moment}
 use Rattle.mse_calls.specs.declared.answers.Name.{Name}
 use Rattle.mse_calls.specs.declared.answers.Name.TheVariants.{NotFound, NoSuchBuffer}
 use Rattle.buffer_state.specs.declared.reply.Reply.{Reply}
-use Rattle.buffer_state.specs.declared.reply.Turned.{Turned}
-use Rattle.buffer_state.specs.declared.reply.Turned.TheVariants.{Did, Idle}
 use Rattle.buffer_state.specs.State.{Feed, Content, KeptBuffer, Surroundings, Stands}
 use Rattle.buffer_state.specs.Replies.{CallResult, IsResult, IsTurnResult, refused_reply}
 use Rattle.buffer_state.specs.Calls.{end_work_result}
@@ -60,34 +58,34 @@ none_answers ks i d reply call e is bs all =
 
 -- ---- a step of work
 
-did_turn : (t : Turned) (new : KeptBuffer) (o : Option CallResult) → IsTurnResult t new o → IsSlotTurn t (Some new) (slot_turn_of o)
-did_turn (Did reply) new None h = absurd h
-did_turn (Did reply) new (Some x) h = record { replies = h.replies; stands = h.stands }
-did_turn Idle new None h = tt
-did_turn Idle new (Some x) h = absurd h
+did_turn : (t : Option Reply) (new : KeptBuffer) (o : Option CallResult) → IsTurnResult t new o → IsSlotTurn t (Some new) (slot_turn_of o)
+did_turn (Some reply) new None h = absurd h
+did_turn (Some reply) new (Some x) h = record { replies = h.replies; stands = h.stands }
+did_turn None new None h = tt
+did_turn None new (Some x) h = absurd h
 
-pub full_turn : (t : Turned) (old new : KeptBuffer) (a : Surroundings) → ((f : Feed) (c : Content) → Stands old f c → IsTurnResult t new (turn_result a f c)) → (s : Option BufferState) → IsSlotStanding (Some old) s → IsSlotTurn t (Some new) (turn_in_slot a s)
+pub full_turn : (t : Option Reply) (old new : KeptBuffer) (a : Surroundings) → ((f : Feed) (c : Content) → Stands old f c → IsTurnResult t new (turn_result a f c)) → (s : Option BufferState) → IsSlotStanding (Some old) s → IsSlotTurn t (Some new) (turn_in_slot a s)
 full_turn t old new a go None h = absurd h
 full_turn t old new a go (Some b) h = did_turn t new (turn_result a b.feed b.content) (go b.feed b.content h)
 
-pub empty_turn : (a : Surroundings) (s : Option BufferState) → IsSlotStanding None s → IsSlotTurn Idle None (turn_in_slot a s)
+pub empty_turn : (a : Surroundings) (s : Option BufferState) → IsSlotStanding None s → IsSlotTurn None None (turn_in_slot a s)
 empty_turn a None h = tt
 empty_turn a (Some b) h = absurd h
 
-put_turn : (t : Turned) (ks : KeptBuffers) (bs : BufferStates) (i : ℕ) (new : Option KeptBuffer) (o : Option SlotResult) → AreSlotsStanding ks bs → IsSlotTurn t new o → IsBuffersTurn t (slice_set ks i new) (buffers_turn_of i bs o)
-put_turn (Did reply) ks bs i new None all h = absurd h
-put_turn (Did reply) ks bs i new (Some a) all h = record { replies = h.replies; stand = set_all ks bs i new a.slot all h.stands }
-put_turn Idle ks bs i new None all h = tt
-put_turn Idle ks bs i new (Some a) all h = absurd h
+put_turn : (t : Option Reply) (ks : KeptBuffers) (bs : BufferStates) (i : ℕ) (new : Option KeptBuffer) (o : Option SlotResult) → AreSlotsStanding ks bs → IsSlotTurn t new o → IsBuffersTurn t (slice_set ks i new) (buffers_turn_of i bs o)
+put_turn (Some reply) ks bs i new None all h = absurd h
+put_turn (Some reply) ks bs i new (Some a) all h = record { replies = h.replies; stand = set_all ks bs i new a.slot all h.stands }
+put_turn None ks bs i new None all h = tt
+put_turn None ks bs i new (Some a) all h = absurd h
 
-pub slot_turn : (t : Turned) (ks : KeptBuffers) (i : ℕ) (a : Surroundings) (old new : Option KeptBuffer) → slice_get ks i ≡ Some old → ((s : Option BufferState) → IsSlotStanding old s → IsSlotTurn t new (turn_in_slot a s))
+pub slot_turn : (t : Option Reply) (ks : KeptBuffers) (i : ℕ) (a : Surroundings) (old new : Option KeptBuffer) → slice_get ks i ≡ Some old → ((s : Option BufferState) → IsSlotStanding old s → IsSlotTurn t new (turn_in_slot a s))
     → (bs : BufferStates) → AreSlotsStanding ks bs → IsBuffersTurn t (slice_set ks i new) (buffers_turn i a bs)
 slot_turn t ks i a old new e go bs all =
     let p = found ks bs i old all e in
     subst (λ (o : Option (Option BufferState)). IsBuffersTurn t (slice_set ks i new) (turn_by_slot o i a bs)) (sym p.there) (put_turn t ks bs i new (turn_in_slot a p.slot) all (go p.slot p.stands))
 
-pub none_turn : (ks : KeptBuffers) (i : ℕ) (a : Surroundings) → slice_get ks i ≡ None → (bs : BufferStates) → AreSlotsStanding ks bs → IsBuffersTurn Idle ks (buffers_turn i a bs)
-none_turn ks i a e bs all = subst (λ (o : Option (Option BufferState)). IsBuffersTurn Idle ks (turn_by_slot o i a bs)) (sym (none_found ks bs i all e)) tt
+pub none_turn : (ks : KeptBuffers) (i : ℕ) (a : Surroundings) → slice_get ks i ≡ None → (bs : BufferStates) → AreSlotsStanding ks bs → IsBuffersTurn None ks (buffers_turn i a bs)
+none_turn ks i a e bs all = subst (λ (o : Option (Option BufferState)). IsBuffersTurn None ks (turn_by_slot o i a bs)) (sym (none_found ks bs i all e)) tt
 
 -- ---- refusals
 

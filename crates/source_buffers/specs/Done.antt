@@ -1,12 +1,11 @@
 -- What a call on the source buffer of a number has done, or a step of its work, for whatever buffers were stood for: in
 -- its slot, and in all of them.
-use Rattle.std.specs.Prelude.{◌≡◌, ℕ, ◌≤◌, false, Option}
+use Rattle.std.specs.Prelude.{◌≡◌, ℕ, ◌≤◌, false, Option, IfSome}
 use Rattle.mse_base.specs.declared.ticks.Moment.{Moment}
 use Rattle.mse_base.specs.Moments.{IsNotAfter}
 use Rattle.buffer_state.specs.declared.reply.Reply.{Reply}
-use Rattle.buffer_state.specs.declared.reply.Turned.{Turned}
 use Rattle.buffer_state.specs.AllCalls.{CallView}
-use Rattle.buffer_state.specs.Replies.{IfDid, changes_of}
+use Rattle.buffer_state.specs.Replies.{changes_of}
 use Rattle.buffer_state.specs.State.{KeptBuffer, Surroundings}
 use Rattle.source_buffers.specs.State.{BufferState, BufferStates, KeptBuffers, IsSlotStanding, AreSlotsStanding}
 use Rattle.source_buffers.specs.Slots.{SlotResult, BuffersResult, IsSlotAnswer, IsBuffersAnswer, IsSlotTurn, IsBuffersTurn, call_in_slot, turn_in_slot, result_on_buffer, buffers_turn}
@@ -50,25 +49,25 @@ IsCallDoneInAll k call a old reply new =
 
 -- A step, if something ran: it did what is meant, fewer are left, the duration was raised at most once, and an
 -- initialization segment that was received left the ranges.
-pub record IsTurnDoneInSlot (a : Surroundings) (old : Option KeptBuffer) (turned : Turned)
+pub record IsTurnDoneInSlot (a : Surroundings) (old : Option KeptBuffer) (turned : Option Reply)
     (new : Option KeptBuffer) : Type 0 where
   pub turned_as : (s : Option BufferState) → IsSlotStanding old s
       → IsSlotTurn turned new (turn_in_slot a s)
   pub idle : IsIdleSlot turned old new
   pub fewer : IsFewerSlot turned old new
   pub changes : changes_of turned ≤ 1
-  pub within_duration : IfDid turned (λ reply. IsSlotStillWithin a.duration old reply new)
-  pub no_fall : IfDid turned (λ reply. IsNotAfter a.duration reply.duration)
-  pub ranges : IfDid turned (λ reply. AreSlotRangesLeft old reply new)
+  pub within_duration : IfSome turned (λ reply. IsSlotStillWithin a.duration old reply new)
+  pub no_fall : IfSome turned (λ reply. IsNotAfter a.duration reply.duration)
+  pub ranges : IfSome turned (λ reply. AreSlotRangesLeft old reply new)
 
 -- the same of all slots, at the buffer of a number
-pub record IsTurnDoneInAll (k : ℕ) (a : Surroundings) (old : KeptBuffers) (turned : Turned)
+pub record IsTurnDoneInAll (k : ℕ) (a : Surroundings) (old : KeptBuffers) (turned : Option Reply)
     (new : KeptBuffers) : Type 0 where
   pub turned_as : (bs : BufferStates) → AreSlotsStanding old bs
       → IsBuffersTurn turned new (buffers_turn k a bs)
   pub idle : AreIdle turned k old new
   pub fewer : AreFewer turned old new
   pub changes : changes_of turned ≤ 1
-  pub within_duration : IfDid turned (λ reply. AreStillWithin a.duration old reply new)
-  pub no_fall : IfDid turned (λ reply. IsNotAfter a.duration reply.duration)
-  pub ranges : IfDid turned (λ reply. AreRangesAfterInit k old reply new)
+  pub within_duration : IfSome turned (λ reply. AreStillWithin a.duration old reply new)
+  pub no_fall : IfSome turned (λ reply. IsNotAfter a.duration reply.duration)
+  pub ranges : IfSome turned (λ reply. AreRangesAfterInit k old reply new)

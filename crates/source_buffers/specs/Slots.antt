@@ -4,8 +4,6 @@ use Rattle.mse_base.specs.declared.ticks.Moment.{Moment}
 use Rattle.mse_calls.specs.declared.answers.Name.{Name}
 use Rattle.mse_calls.specs.declared.answers.Name.TheVariants.{NotFound, NoSuchBuffer}
 use Rattle.buffer_state.specs.declared.reply.Reply.{Reply}
-use Rattle.buffer_state.specs.declared.reply.Turned.{Turned}
-use Rattle.buffer_state.specs.declared.reply.Turned.TheVariants.{Did, Idle}
 use Rattle.buffer_state.specs.AllCalls.{CallView, refusal_of_call, removed_name, result_of_call}
 use Rattle.buffer_state.specs.State.{KeptBuffer, Surroundings}
 use Rattle.buffer_state.specs.Replies.{CallResult, refused_reply}
@@ -141,14 +139,14 @@ IsBuffersAnswer old reply new call =
     (bs : BufferStates) → AreSlotsStanding old bs → IsBuffersResult reply new (call bs)
 
 -- something ran, or nothing did
-abbrev pub IsSlotTurn : Turned → Option KeptBuffer → Option SlotResult → Type 0
-IsSlotTurn (Did reply) kept None = ⊥
-IsSlotTurn (Did reply) kept (Some result) = IsSlotResult reply kept result
-IsSlotTurn Idle kept None = Unit {0}
-IsSlotTurn Idle kept (Some result) = ⊥
+abbrev pub IsSlotTurn : Option Reply → Option KeptBuffer → Option SlotResult → Type 0
+IsSlotTurn (Some reply) kept None = ⊥
+IsSlotTurn (Some reply) kept (Some result) = IsSlotResult reply kept result
+IsSlotTurn None kept None = Unit {0}
+IsSlotTurn None kept (Some result) = ⊥
 
-abbrev pub IsBuffersTurn : Turned → KeptBuffers → Option BuffersResult → Type 0
-IsBuffersTurn (Did reply) kept None = ⊥
-IsBuffersTurn (Did reply) kept (Some result) = IsBuffersResult reply kept result
-IsBuffersTurn Idle kept None = Unit {0}
-IsBuffersTurn Idle kept (Some result) = ⊥
+abbrev pub IsBuffersTurn : Option Reply → KeptBuffers → Option BuffersResult → Type 0
+IsBuffersTurn (Some reply) kept None = ⊥
+IsBuffersTurn (Some reply) kept (Some result) = IsBuffersResult reply kept result
+IsBuffersTurn None kept None = Unit {0}
+IsBuffersTurn None kept (Some result) = ⊥

@@ -3,6 +3,7 @@ ghost use Rattle.mse_base.specs.declared.ticks.Moment.{Moment};
 ghost use Rattle.track_store.specs.State.{state_of};
 ghost use Rattle.buffer_state.specs.State.{surroundings};
 ghost use Rattle.buffer_state.specs.AllCalls.{call_at};
+ghost use Rattle.buffer_state.specs.Replies.{reply_of};
 ghost use Rattle.buffer_state.specs.declared.buffer_context.BufferContext.{BufferContext};
 ghost use Rattle.track_buffers.specs.Buffered.{is_buffered_up_to};
 ghost use Rattle.source_buffers.specs.State.{BufferStates, AreSlotsStanding, HasStates, all_kept_media, all_kept_running, new_buffer};
@@ -156,7 +157,7 @@ impl<S: FrameStore> SourceBuffers<S> {
     /// takes its memory first; an `Err` changes nothing.
     pub fn turn(&mut self, k: u32, around: &BufferContext) -> Result<Turned, OutOfMemory>
         ensures done { IfOk result (λ turned. IsTurnDoneInAll k (surroundings around.now)
-            self.old.buffers turned self.new.buffers) }
+            self.old.buffers (reply_of around.now.duration turned) self.new.buffers) }
         ensures len { length self.new.buffers ≡ length self.old.buffers }
         ensures spare { self.new.spare ≡ self.old.spare }
         ensures err { OnErr result (self.new ≡ self.old) }
@@ -325,7 +326,7 @@ fn turn_slot<S: FrameStore>(
     around: &BufferContext,
 ) -> Result<Turned, OutOfMemory>
     ensures done { IfOk result (λ turned. IsTurnDoneInSlot (surroundings around.now) slot.old
-        turned slot.new) }
+        (reply_of around.now.duration turned) slot.new) }
     ensures err { OnErr result (slot.new ≡ slot.old) }
 {
     match slot {

@@ -76,6 +76,7 @@ fn drain(scene: &mut AllBuffersScene, k: u32) -> Result<usize, OutOfMemory> {
         let told = around(scene, k);
         match scene.buffers.turn(k, &told)? {
             Turned::Did(reply) => scene.duration = reply.duration,
+            Turned::Quiet => {}
             Turned::Idle => return Ok(steps),
         }
     }

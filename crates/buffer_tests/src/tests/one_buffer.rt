@@ -57,6 +57,7 @@ fn turn(scene: &mut OneBufferScene) -> Result<Option<Outcome>, OutOfMemory> {
             let (number, offset) = fault_pair(&reply.fault);
             Ok(Some((number, offset, reply.received_init)))
         }
+        Turned::Quiet => Ok(Some((0, 0, false))),
         Turned::Idle => Ok(None),
     }
 }
