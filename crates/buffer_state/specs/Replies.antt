@@ -115,7 +115,7 @@ HasRangesAfterInit old reply new =
 
 -- ---- turns
 
--- what a turn replied, if something ran, where the duration was this
+-- which reply a turn stands for, if something ran, where the duration before it was this
 abbrev pub reply_of : Moment → Turned → Option Reply
 reply_of duration (Did reply) = Some reply
 reply_of duration Quiet = Some (quiet_reply duration)

@@ -32,9 +32,10 @@ pub struct Reply {
 /// What one step of running work did.
 #[derive(Debug, Drop)]
 pub enum Turned {
-    /// Something ran, and this came of it.
+    /// Something ran, with this reply. It may tell nothing, as that of the end of a segment.
     Did(Reply),
-    /// Something ran of which nothing comes, as of each plain coded frame.
+    /// Something ran of which nothing comes at the source, and no event at the buffer: a coded frame
+    /// that leaves the duration as it is.
     Quiet,
     /// Nothing runs.
     Idle,

@@ -274,6 +274,7 @@ pub(crate) fn append_turn<S: FrameStore>(
     stream.stands();
     if stream.ready_frames() > 0 {
         media.reserve_frames(1)?;
+        // `?` would move the frame twice more
         let Ok((frame, offset)) = stream.next_frame() else {
             return Err(OutOfMemory);
         };

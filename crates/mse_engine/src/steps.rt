@@ -52,6 +52,7 @@ pub(crate) fn work_on<S: FrameStore>(
     let around = around(source, element, k);
     let mut bounds = LoadBounds::NONE;
     scenes::find_bounds(source, buffers, element, &mut bounds)?;
+    // `?` would move the room for a reply twice more
     match buffers.turn(k, &around) {
         Ok(Turned::Did(reply)) => {
             drop_stale_bounds(source, k, &reply, &mut bounds);
