@@ -108,15 +108,6 @@ pub frame-step : (st : ItemEffect) (e : MediaEffect) (f : CodedFrame) (at : ℕ)
 frame-step st (effects.Done e) f at m0 m1 latest d is h = h ∙ ap (λ (r : MediaResult). Took (media_item_result r at latest (record { media = m0; latest = latest }))) is
 frame-step st (effects.AppendError fault e) f at m0 m1 latest d is h = h ∙ ap (λ (r : MediaResult). Took (media_item_result r at latest (record { media = m0; latest = latest }))) is
 
--- a frame that goes well
-pub frame-goes : (s0 s1 : StreamView) (m0 m1 : Media) (r0 : Running) (f : CodedFrame) (at : ℕ) (e : SourceEffect) (a : Surroundings) → IsNextOfStream s0 (Some (FrameItem f at)) → IsStreamAfter s0 (Some (FrameItem f at)) s1 → latest_of s1 ≡ latest_of s0
-    → media.Done m1 e ≡ frame_result f m0 a.duration
-    → IsBufferAnswer (kept_buffer s0 m0 r0) (effect_reply false e []) (kept_buffer s1 m1 r0) (λ f c. append_turn_result (next_item f) a f c)
-frame-goes s0 s1 m0 m1 r0 f at e a gives goes last is =
-    let st : ItemEffect = step.Done e in
-    append-turns s0 s1 s1 m0 m1 m1 r0 r0 (Some (FrameItem f at)) st (effect_reply false e []) a gives goes last
-    (λ latest. frame-step st (effects.Done e) f at m0 m1 latest a.duration is refl) (λ g c h. record { replies = refl; stands = h })
-
 -- a frame that breaks the byte stream
 pub frame-breaks : (s0 s1 s2 : StreamView) (m0 m1 m2 : Media) (r0 r2 : Running) (f : CodedFrame) (at : ℕ) (fault : MediaFault) (e : SourceEffect) (reply : Reply) (a : Surroundings) → IsNextOfStream s0 (Some (FrameItem f at)) → IsStreamAfter s0 (Some (FrameItem f at)) s1 → latest_of s1 ≡ latest_of s0
     → media.AppendError fault m1 e ≡ frame_result f m0 a.duration

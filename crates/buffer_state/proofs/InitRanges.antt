@@ -60,7 +60,7 @@ turn_by : (o : Option Reply) (old new : KeptBuffer) (a : Surroundings) → HasRe
 turn_by None old new a some turns = tt
 turn_by (Some reply) old new a some turns = leaves_ranges old new reply a some turns
 
-pub turn_leaves_ranges : {E : Type 0} (r : Result Turned E) (d : Moment) (old new : KeptBuffer) (a : Surroundings) → HasReading old.stream → IsTurnIfOk d old r new (λ f c. Some (append_turn_result (next_item f) a f c))
-    → IfOk r (λ turned. IfSome (reply_of d turned) (λ reply. HasRangesAfterInit old.media reply new.media))
-turn_leaves_ranges (Ok turned) d old new a some turns = turn_by (reply_of d turned) old new a some turns
-turn_leaves_ranges (Err e) d old new a some turns = tt
+pub turn_leaves_ranges : {E : Type 0} (r : Result Turned E) (d : Moment) (reply : Reply) (old new : KeptBuffer) (a : Surroundings) → HasReading old.stream → IsTurnIfOk d reply old r new (λ f c. Some (append_turn_result (next_item f) a f c))
+    → IfOk r (λ turned. IfSome (reply_of d reply turned) (λ x. HasRangesAfterInit old.media x new.media))
+turn_leaves_ranges (Ok turned) d reply old new a some turns = turn_by (reply_of d reply turned) old new a some turns
+turn_leaves_ranges (Err e) d reply old new a some turns = tt

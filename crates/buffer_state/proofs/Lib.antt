@@ -2,7 +2,6 @@ pub mod KeptBuffers
 pub mod ItemsNext
 pub mod AppendSteps
 pub mod StepsLeft
-pub mod QuietTurns
 pub mod TypeChanges
 pub mod InitRanges
 pub mod Refusals

@@ -71,7 +71,7 @@ fewer-error s0 s2 m0 m2 r2 o m d (step.Done b) h leaves = absurd h
 fewer-error s0 s2 m0 m2 r2 o m d (step.AppendError fault at b) h leaves = rw leaves (omega arith)
 
 -- where an item was given, and the append goes on
-pub fewer-given : (s t : StreamView) (m n : Media) (item : ByteItem) → HasReading s → IsStreamAfter s (Some item) t → steps_left (kept_buffer t n Append) < steps_left (kept_buffer s m Append)
-fewer-given s t m n item some goes =
+pub fewer-given : (s t : StreamView) (m n : Media) (running : Running) (item : ByteItem) → running ≡ Append → HasReading s → IsStreamAfter s (Some item) t → steps_left (kept_buffer t n running) < steps_left (kept_buffer s m running)
+fewer-given s t m n running item appends some goes =
     let one : items_left t.parser + 1 ≡ items_left s.parser = one-less s t item some goes in
-    omega arith
+    rw appends (omega arith)

@@ -1,5 +1,5 @@
 -- What a call or a turn answers, and the state behind it.
-use Rattle.std.specs.Prelude.{◌≡◌, ℕ, ◌≤◌, Bool, true, false, List, [], ◌∷◌, Option, Some, None, Result, IfOk, if◌then◌else◌}
+use Rattle.std.specs.Prelude.{◌≡◌, ℕ, ◌≤◌, Bool, true, false, List, [], ◌∷◌, Option, Some, None, Result, Ok, Err, IfOk, if◌then◌else◌}
 use Rattle.mse_base.specs.declared.ticks.Moment.{Moment}
 use Rattle.mse_base.specs.Moments.{IsNotAfter}
 use Rattle.mse_calls.specs.declared.answers.Name.{Name}
@@ -115,11 +115,19 @@ HasRangesAfterInit old reply new =
 
 -- ---- turns
 
--- which reply a turn stands for, if something ran, where the duration before it was this
-abbrev pub reply_of : Moment → Turned → Option Reply
-reply_of duration (Did reply) = Some reply
-reply_of duration Quiet = Some (quiet_reply duration)
-reply_of duration Idle = None
+-- which reply a turn stands for, if something ran: the one that was made, or that nothing comes, where the duration before
+-- the turn was this
+abbrev pub reply_of : Moment → Reply → Turned → Option Reply
+reply_of duration reply Did = Some reply
+reply_of duration reply Quiet = Some (quiet_reply duration)
+reply_of duration reply Idle = None
+
+-- a reply is put in the place of another only where a turn says that it made one
+abbrev pub IsReplacedOnlyByDid : {E : Type 0} → Result Turned E → Reply → Reply → Type 0
+IsReplacedOnlyByDid (Ok Did) old new = Unit {0}
+IsReplacedOnlyByDid (Ok Quiet) old new = new ≡ old
+IsReplacedOnlyByDid (Ok Idle) old new = new ≡ old
+IsReplacedOnlyByDid (Err e) old new = new ≡ old
 
 -- something ran, or nothing did
 abbrev pub IsTurnResult : Option Reply → KeptBuffer → Option CallResult → Type 0
@@ -129,11 +137,11 @@ IsTurnResult None k None = Unit {0}
 IsTurnResult None k (Some result) = ⊥
 
 -- the same of a turn, for every feed and content that was stood for, where there is memory
-abbrev pub IsTurnIfOk : {E : Type 0} → Moment → KeptBuffer → Result Turned E → KeptBuffer
+abbrev pub IsTurnIfOk : {E : Type 0} → Moment → Reply → KeptBuffer → Result Turned E → KeptBuffer
     → (Feed → Content → Option CallResult) → Type 0
-IsTurnIfOk duration old result new turn =
+IsTurnIfOk duration reply old result new turn =
     (f : Feed) (c : Content) → Stands old f c
-    → IfOk result (λ turned. IsTurnResult (reply_of duration turned) new (turn f c))
+    → IfOk result (λ turned. IsTurnResult (reply_of duration reply turned) new (turn f c))
 
 -- how often the duration changed in a turn
 abbrev pub changes_of : Option Reply → ℕ

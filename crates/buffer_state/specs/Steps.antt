@@ -1,6 +1,5 @@
 -- A device of the proof, which no public clause needs: what the code does in one step of an append, in parts.
-use Rattle.std.specs.Prelude.{◌≡◌, ℕ, ◌≤◌, ◌==◌, Bool, true, false, not, ◌&&◌, [], length, Option, Some, None}
-use Rattle.mse_base.specs.Moments.{is_same_moment}
+use Rattle.std.specs.Prelude.{◌≡◌, ℕ, ◌≤◌, true, false, [], length, Option, Some, None}
 use Rattle.mse_base.specs.declared.frame.CodedFrame.{CodedFrame}
 use Rattle.mse_base.specs.declared.ticks.Moment.{Moment}
 use Rattle.mse_base.specs.declared.track.Presentation.{Presentation}
@@ -9,7 +8,6 @@ use Rattle.byte_stream.specs.Readings.{ByteItem}
 use Rattle.byte_stream.specs.Streams.{StreamView}
 use Rattle.track_buffers.specs.Media.{Media, MediaView, is_awaiting_first}
 use Rattle.track_buffers.specs.Initialized.{media_tracks, init_fault}
-use Rattle.track_buffers.specs.declared.effects.SourceEffect.{SourceEffect}
 use Rattle.track_buffers.specs.declared.effects.MediaEffect.{MediaEffect}
 use Rattle.track_buffers.specs.declared.effects.MediaEffect.TheVariants as effects
 use Rattle.buffer_state.specs.declared.running.Running.{Running}
@@ -96,12 +94,6 @@ abbrev pub IsLeftByStep : ItemEffect → StreamView → Running → StreamView �
 IsLeftByStep step.NoItem old running new rest = rest ≡ Nothing
 IsLeftByStep (step.Done b) old running new rest = (new ≡ old) × (rest ≡ running)
 IsLeftByStep (step.AppendError fault at b) old running new rest = rest ≡ Nothing
-
--- nothing comes at the source, where this is the duration
-abbrev pub is_quiet : SourceEffect → Moment → Bool
-is_quiet e d =
-    e.duration_changes == 0
-    && (not e.activated && (not e.received_init && is_same_moment e.duration d))
 
 -- the coded frame of an item, if it is one
 abbrev pub frame_in : Option ByteItem → Option CodedFrame

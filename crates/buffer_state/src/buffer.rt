@@ -12,7 +12,7 @@ ghost use Rattle.track_buffers.specs.Media.{is_awaiting_first};
 ghost use Rattle.track_buffers.specs.Frames.{used_in, highest_start_in, highest_end_in};
 ghost use Rattle.track_buffers.specs.Buffered.{buffered_of, is_buffered_up_to};
 ghost use Rattle.buffer_state.specs.State.{Feed, Content, KeptBuffer, Stands, surroundings, append_input, new_feed, phase_in, ready_in, is_updating, is_appending, is_removing};
-ghost use Rattle.buffer_state.specs.Replies.{IsDone, IsStillWithin, HasRangesAfterInit, IsTurnIfOk, changes_of, reply_of};
+ghost use Rattle.buffer_state.specs.Replies.{IsDone, IsReplacedOnlyByDid, IsStillWithin, HasRangesAfterInit, IsTurnIfOk, changes_of, reply_of};
 ghost use Rattle.buffer_state.specs.Turns.{turn_result};
 ghost use Rattle.buffer_state.specs.Calls.{has_generated_timestamps, end_work_result, buffer_view};
 ghost use Rattle.buffer_state.specs.declared.buffer_context.BufferContext.{BufferContext};
@@ -287,23 +287,28 @@ impl<S: FrameStore> Buffer<S> {
     }
 
     /// One step of the work that runs: the next item of an append or its end, or the whole of a
-    /// removal. It takes its memory first; an `Err` changes nothing.
-    pub fn turn(&mut self, around: &BufferContext) -> Result<Turned, OutOfMemory>
-        ensures turned { IsTurnIfOk around.now.duration self.old result self.new
+    /// removal. Where it answers `Did`, its reply is in `reply`, which stays as it is else: most steps
+    /// make none, and a result would have room for one. It takes its memory first; an `Err` changes
+    /// nothing.
+    pub fn turn(&mut self, around: &BufferContext, reply: &mut Reply) -> Result<Turned, OutOfMemory>
+        ensures turned { IsTurnIfOk around.now.duration reply.new self.old result self.new
             (turn_result (surroundings around.now)) }
         ensures idle { IfOk result
-            (λ turned. IsIdle (reply_of around.now.duration turned) self.old self.new) }
+            (λ turned. IsIdle (reply_of around.now.duration reply.new turned) self.old self.new) }
         ensures fewer { IfOk result
-            (λ turned. IsFewer (reply_of around.now.duration turned) self.old self.new) }
+            (λ turned. IsFewer (reply_of around.now.duration reply.new turned) self.old self.new) }
         ensures changes { IfOk result
-            (λ turned. changes_of (reply_of around.now.duration turned) ≤ 1) }
+            (λ turned. changes_of (reply_of around.now.duration reply.new turned) ≤ 1) }
         ensures within_duration { IfOk result
-            (λ turned. IfSome (reply_of around.now.duration turned)
+            (λ turned. IfSome (reply_of around.now.duration reply.new turned)
             (λ reply. IsStillWithin around.now.duration self.old.media reply self.new.media)) }
-        ensures no_fall { IfOk result (λ turned. IfSome (reply_of around.now.duration turned)
+        ensures no_fall { IfOk result
+            (λ turned. IfSome (reply_of around.now.duration reply.new turned)
             (λ reply. IsNotAfter around.now.duration reply.duration)) }
-        ensures ranges { IfOk result (λ turned. IfSome (reply_of around.now.duration turned)
+        ensures ranges { IfOk result
+            (λ turned. IfSome (reply_of around.now.duration reply.new turned)
             (λ reply. HasRangesAfterInit self.old.media reply self.new.media)) }
+        ensures replaced { IsReplacedOnlyByDid result reply.old reply.new }
         ensures err { OnErr result (self.new ≡ self.old) }
     {
         match &self.running {
@@ -311,18 +316,24 @@ impl<S: FrameStore> Buffer<S> {
             Running::Append => {
                 // that the stream stands for some string is used where a segment is received
                 self.stream.stands();
-                turns::append_turn(&mut self.stream, &mut self.media, &mut self.running, around)
+                turns::append_turn(
+                    &mut self.stream,
+                    &mut self.media,
+                    &mut self.running,
+                    around,
+                    reply,
+                )
             }
             Running::Removal { start, end } => {
                 let (start, end) = (*start, *end);
-                let reply = turns::removal_turn(
+                *reply = turns::removal_turn(
                     &mut self.media,
                     &mut self.running,
                     start,
                     end,
                     around,
                 );
-                Ok(Turned::Did(reply))
+                Ok(Turned::Did)
             }
         }
     }

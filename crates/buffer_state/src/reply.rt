@@ -1,6 +1,6 @@
 ghost use Rattle.std.specs.Prelude.{◌≡◌, [], ◌∷◌, Some};
 ghost use Rattle.mse_base.specs.Moments.{IsNotAfter};
-ghost use Rattle.buffer_state.specs.Replies.{refused_reply, effect_reply, event_reply, error_reply};
+ghost use Rattle.buffer_state.specs.Replies.{refused_reply, effect_reply, event_reply, error_reply, quiet_reply};
 
 use mse_base::Moment;
 use mse_calls::{Changes, EventKind, FaultView, Name};
@@ -30,10 +30,10 @@ pub struct Reply {
 }
 
 /// What one step of running work did.
-#[derive(Debug, Drop)]
+#[derive(Clone, Copy, Debug, PartialEq, Eq)]
 pub enum Turned {
-    /// Something ran, with this reply. It may tell nothing, as that of the end of a segment.
-    Did(Reply),
+    /// Something ran, and made a reply. That may tell nothing, as at the end of a segment.
+    Did,
     /// Something ran of which nothing comes at the source, and no event at the buffer: a coded frame
     /// that leaves the duration as it is.
     Quiet,
@@ -42,6 +42,13 @@ pub enum Turned {
 }
 
 impl Reply {
+    /// That nothing comes at the source, and no event at the buffer, where the duration is this.
+    pub fn quiet(duration: &Moment) -> Reply
+        ensures { result ≡ quiet_reply duration.now }
+    {
+        event_reply(false, duration, Changes::new())
+    }
+
     /// A refusal by a name, where the duration is this.
     pub fn refused(name: Name, reopened: bool, duration: &Moment) -> Reply
         ensures reply { result ≡ refused_reply name reopened duration.now }

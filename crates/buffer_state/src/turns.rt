@@ -11,9 +11,9 @@ ghost use Rattle.byte_stream.specs.Streams.{ForEachReading, HasReading, StreamVi
 ghost use Rattle.track_buffers.specs.Effects.{media_result, source_effect};
 ghost use Rattle.track_buffers.specs.Media.{Media, AreEndedWithin};
 ghost use Rattle.buffer_state.specs.State.{Content, kept_buffer, next_item, surroundings};
-ghost use Rattle.buffer_state.specs.Replies.{IsBufferAnswer, IsBufferAnswerIfOk, IsStillWithin, IsTurnIfOk, changes_of, reply_of};
+ghost use Rattle.buffer_state.specs.Replies.{IsBufferAnswer, IsBufferAnswerIfOk, IsReplacedOnlyByDid, IsStillWithin, IsTurnIfOk, changes_of, reply_of};
 ghost use Rattle.buffer_state.specs.Turns.{append_turn_result, removal_turn_result, media_item_result};
-ghost use Rattle.buffer_state.specs.Steps.{is_quiet, IsReadyFor, IsPrepared, IsLeftByStep, Took, content_at, step_result, step_of_item, duration_after, changes_after, step_turn};
+ghost use Rattle.buffer_state.specs.Steps.{IsReadyFor, IsPrepared, IsLeftByStep, Took, content_at, step_result, step_of_item, duration_after, changes_after, step_turn};
 ghost use Rattle.buffer_state.specs.StepsLeft.{IsFewer, IsIdle, steps_left};
 
 use crate::buffer_context::BufferContext;
@@ -232,41 +232,35 @@ fn frame_fault<S: FrameStore>(
     answer(stream, media, running, step, around)
 }
 
-/// Whether nothing comes at the source, where this is the duration.
-fn is_quiet(effect: &SourceEffect, duration: &Moment) -> bool
-    ensures { result ≡ is_quiet effect.now duration.now }
-{
-    effect.duration_changes == 0
-        && !effect.activated
-        && !effect.received_init
-        && effect.duration == *duration
-}
-
-/// One step of an append. It takes its memory first.
+/// One step of an append, as [`Buffer::turn`](crate::Buffer::turn).
 pub(crate) fn append_turn<S: FrameStore>(
     stream: &mut ByteStream,
     media: &mut TrackBuffers<S>,
     running: &mut Running,
     around: &BufferContext,
+    reply: &mut Reply,
 ) -> Result<Turned, OutOfMemory>
     requires none_offered { stream.old.offered ≡ None }
     requires appending { running.old ≡ Running.Append }
-    ensures answered { IsTurnIfOk around.now.duration
+    ensures answered { IsTurnIfOk around.now.duration reply.new
         (kept_buffer stream.old media.old.media running.old) result
         (kept_buffer stream.new media.new.media running.new)
         (λ f c. Some (append_turn_result (next_item f) (surroundings around.now) f c)) }
-    ensures idle { IfOk result (λ turned. IsIdle (reply_of around.now.duration turned)
+    ensures idle { IfOk result (λ turned. IsIdle (reply_of around.now.duration reply.new turned)
         (kept_buffer stream.old media.old.media running.old)
         (kept_buffer stream.new media.new.media running.new)) }
-    ensures within_duration { IfOk result (λ turned. IfSome (reply_of around.now.duration turned)
+    ensures within_duration { IfOk result
+        (λ turned. IfSome (reply_of around.now.duration reply.new turned)
         (λ reply. IsStillWithin around.now.duration media.old.media reply media.new.media)) }
-    ensures no_fall { IfOk result (λ turned. IfSome (reply_of around.now.duration turned)
+    ensures no_fall { IfOk result (λ turned. IfSome (reply_of around.now.duration reply.new turned)
         (λ reply. IsNotAfter around.now.duration reply.duration)) }
-    ensures changes { IfOk result (λ turned. changes_of (reply_of around.now.duration turned) ≤ 1) }
-    ensures fewer { IfOk result (λ turned. IsFewer (reply_of around.now.duration turned)
+    ensures changes { IfOk result
+        (λ turned. changes_of (reply_of around.now.duration reply.new turned) ≤ 1) }
+    ensures fewer { IfOk result (λ turned. IsFewer (reply_of around.now.duration reply.new turned)
         (kept_buffer stream.old media.old.media running.old)
         (kept_buffer stream.new media.new.media running.new)) }
     ensures none_offered { stream.new.offered ≡ None }
+    ensures replaced { IsReplacedOnlyByDid result reply.old reply.new }
     ensures err { OnErr result (kept_buffer stream.new media.new.media running.new
         ≡ kept_buffer stream.old media.old.media running.old) }
 {
@@ -282,20 +276,21 @@ pub(crate) fn append_turn<S: FrameStore>(
         media.watch(around.position);
         return match media.process(frame, around.duration) {
             MediaEffect::Done(effect) => {
-                if is_quiet(&effect, &around.duration) {
+                if effect == no_effect(&around.duration) {
                     Ok(Turned::Quiet)
                 } else {
-                    Ok(Turned::Did(effect_reply(false, effect, Changes::new())))
+                    *reply = effect_reply(false, effect, Changes::new());
+                    Ok(Turned::Did)
                 }
             }
             MediaEffect::AppendError(fault, effect) => {
-                let reply = frame_fault(stream, media, running, fault, offset, effect, around);
-                Ok(Turned::Did(reply))
+                *reply = frame_fault(stream, media, running, fault, offset, effect, around);
+                Ok(Turned::Did)
             }
         };
     }
-    let reply = item_turn(stream, media, running, around)?;
-    Ok(Turned::Did(reply))
+    *reply = item_turn(stream, media, running, around)?;
+    Ok(Turned::Did)
 }
 
 /// A removal, in one step. It is apart, as `item_turn` is.

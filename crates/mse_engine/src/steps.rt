@@ -52,19 +52,18 @@ pub(crate) fn work_on<S: FrameStore>(
     let around = around(source, element, k);
     let mut bounds = LoadBounds::NONE;
     scenes::find_bounds(source, buffers, element, &mut bounds)?;
-    // `?` would move the room for a reply twice more
-    match buffers.turn(k, &around) {
-        Ok(Turned::Did(reply)) => {
+    let mut reply = Reply::quiet(&around.duration);
+    match buffers.turn(k, &around, &mut reply)? {
+        Turned::Did => {
             drop_stale_bounds(source, k, &reply, &mut bounds);
             apply_work_reply(source, buffers, element, k, &reply, &bounds);
             Ok(Worked::Did)
         }
-        Ok(Turned::Quiet) => {
+        Turned::Quiet => {
             settle(source, buffers, element);
             Ok(Worked::Did)
         }
-        Ok(Turned::Idle) => Ok(Worked::Idle),
-        Err(OutOfMemory) => Err(OutOfMemory),
+        Turned::Idle => Ok(Worked::Idle),
     }
 }
 

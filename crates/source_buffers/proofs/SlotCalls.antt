@@ -80,19 +80,19 @@ ranges_in : (t : Option Reply) (old new : KeptBuffer) → IfSome t (λ reply. Ha
 ranges_in (Some reply) old new h = h
 ranges_in None old new h = tt
 
-pub turned_there : {E : Type 0} (r : Result Turned E) (old new : KeptBuffer) (a : Surroundings) → IsTurnIfOk a.duration old r new (turn_result a) → IfOk r (λ t. IsIdle (reply_of a.duration t) old new) → IfOk r (λ t. IsFewer (reply_of a.duration t) old new) → IfOk r (λ t. changes_of (reply_of a.duration t) ≤ 1)
-    → IfOk r (λ t. IfSome (reply_of a.duration t) (λ reply. IsStillWithin a.duration old.media reply new.media)) → IfOk r (λ t. IfSome (reply_of a.duration t) (λ reply. IsNotAfter a.duration reply.duration)) → IfOk r (λ t. IfSome (reply_of a.duration t) (λ reply. HasRangesAfterInit old.media reply new.media))
-    → IfOk r (λ t. IsTurnDoneInSlot a (Some old) (reply_of a.duration t) (Some new))
-turned_there (Ok t) old new a turned idle fewer changes within fall ranges = record {
-  turned_as = full_turn (reply_of a.duration t) old new a turned;
-  idle = idle_in (reply_of a.duration t) old new idle;
-  fewer = fewer_in (reply_of a.duration t) old new fewer;
+pub turned_there : {E : Type 0} (r : Result Turned E) (made : Reply) (old new : KeptBuffer) (a : Surroundings) → IsTurnIfOk a.duration made old r new (turn_result a) → IfOk r (λ t. IsIdle (reply_of a.duration made t) old new) → IfOk r (λ t. IsFewer (reply_of a.duration made t) old new) → IfOk r (λ t. changes_of (reply_of a.duration made t) ≤ 1)
+    → IfOk r (λ t. IfSome (reply_of a.duration made t) (λ reply. IsStillWithin a.duration old.media reply new.media)) → IfOk r (λ t. IfSome (reply_of a.duration made t) (λ reply. IsNotAfter a.duration reply.duration)) → IfOk r (λ t. IfSome (reply_of a.duration made t) (λ reply. HasRangesAfterInit old.media reply new.media))
+    → IfOk r (λ t. IsTurnDoneInSlot a (Some old) (reply_of a.duration made t) (Some new))
+turned_there (Ok t) made old new a turned idle fewer changes within fall ranges = record {
+  turned_as = full_turn (reply_of a.duration made t) old new a turned;
+  idle = idle_in (reply_of a.duration made t) old new idle;
+  fewer = fewer_in (reply_of a.duration made t) old new fewer;
   changes = changes;
-  within_duration = within_in (reply_of a.duration t) old new a.duration within;
+  within_duration = within_in (reply_of a.duration made t) old new a.duration within;
   no_fall = fall;
-  ranges = ranges_in (reply_of a.duration t) old new ranges;
+  ranges = ranges_in (reply_of a.duration made t) old new ranges;
 }
-turned_there (Err e) old new a turned idle fewer changes within fall ranges = tt
+turned_there (Err e) made old new a turned idle fewer changes within fall ranges = tt
 
 pub nothing_there : (a : Surroundings) → IsTurnDoneInSlot a None None None
 nothing_there a = record { turned_as = empty_turn a; idle = (refl, refl); fewer = tt; changes = omega arith; within_duration = tt; no_fall = tt; ranges = tt }

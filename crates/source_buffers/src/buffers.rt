@@ -3,7 +3,7 @@ ghost use Rattle.mse_base.specs.declared.ticks.Moment.{Moment};
 ghost use Rattle.track_store.specs.State.{state_of};
 ghost use Rattle.buffer_state.specs.State.{surroundings};
 ghost use Rattle.buffer_state.specs.AllCalls.{call_at};
-ghost use Rattle.buffer_state.specs.Replies.{reply_of};
+ghost use Rattle.buffer_state.specs.Replies.{IsReplacedOnlyByDid, reply_of};
 ghost use Rattle.buffer_state.specs.declared.buffer_context.BufferContext.{BufferContext};
 ghost use Rattle.track_buffers.specs.Buffered.{is_buffered_up_to};
 ghost use Rattle.source_buffers.specs.State.{BufferStates, AreSlotsStanding, HasStates, all_kept_media, all_kept_running, new_buffer};
@@ -153,11 +153,18 @@ impl<S: FrameStore> SourceBuffers<S> {
     }
 
     /// One step of the work of the buffer of a number: the next item of an append or its end, or
-    /// the whole of a removal; `Idle` exactly where nothing runs there, also where no buffer is. It
-    /// takes its memory first; an `Err` changes nothing.
-    pub fn turn(&mut self, k: u32, around: &BufferContext) -> Result<Turned, OutOfMemory>
+    /// the whole of a removal; `Idle` exactly where nothing runs there, also where no buffer is. Where
+    /// it answers `Did`, its reply is in `reply`, which stays as it is else. It takes its memory first;
+    /// an `Err` changes nothing.
+    pub fn turn(
+        &mut self,
+        k: u32,
+        around: &BufferContext,
+        reply: &mut Reply,
+    ) -> Result<Turned, OutOfMemory>
         ensures done { IfOk result (λ turned. IsTurnDoneInAll k (surroundings around.now)
-            self.old.buffers (reply_of around.now.duration turned) self.new.buffers) }
+            self.old.buffers (reply_of around.now.duration reply.new turned) self.new.buffers) }
+        ensures replaced { IsReplacedOnlyByDid result reply.old reply.new }
         ensures len { length self.new.buffers ≡ length self.old.buffers }
         ensures spare { self.new.spare ≡ self.old.spare }
         ensures err { OnErr result (self.new ≡ self.old) }
@@ -165,7 +172,7 @@ impl<S: FrameStore> SourceBuffers<S> {
         let Some(slot) = self.slots.get_mut(k as usize) else {
             return Ok(Turned::Idle);
         };
-        turn_slot(slot, around)
+        turn_slot(slot, around, reply)
     }
 
     /// The name by which [`remove`](Self::remove) would be refused, if it would.
@@ -324,13 +331,15 @@ fn remove_slot<S: FrameStore>(slot: &mut Option<Buffer<S>>, around: &BufferConte
 fn turn_slot<S: FrameStore>(
     slot: &mut Option<Buffer<S>>,
     around: &BufferContext,
+    reply: &mut Reply,
 ) -> Result<Turned, OutOfMemory>
     ensures done { IfOk result (λ turned. IsTurnDoneInSlot (surroundings around.now) slot.old
-        (reply_of around.now.duration turned) slot.new) }
+        (reply_of around.now.duration reply.new turned) slot.new) }
+    ensures replaced { IsReplacedOnlyByDid result reply.old reply.new }
     ensures err { OnErr result (slot.new ≡ slot.old) }
 {
     match slot {
-        Some(buffer) => buffer.turn(around),
+        Some(buffer) => buffer.turn(around, reply),
         None => Ok(Turned::Idle),
     }
 }

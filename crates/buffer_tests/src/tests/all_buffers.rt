@@ -74,8 +74,9 @@ fn begin(
 fn drain(scene: &mut AllBuffersScene, k: u32) -> Result<usize, OutOfMemory> {
     for steps in 0..100 {
         let told = around(scene, k);
-        match scene.buffers.turn(k, &told)? {
-            Turned::Did(reply) => scene.duration = reply.duration,
+        let mut reply = Reply::quiet(&scene.duration);
+        match scene.buffers.turn(k, &told, &mut reply)? {
+            Turned::Did => scene.duration = reply.duration,
             Turned::Quiet => {}
             Turned::Idle => return Ok(steps),
         }

@@ -2,7 +2,7 @@
 //! is what no script can do, since the source of a script ends with a fault.
 
 use bmff_write::make;
-use buffer_state::{Buffer, BufferContext, Container, Turned};
+use buffer_state::{Buffer, BufferContext, Container, Reply, Turned};
 use mse_base::{Bytes, Moment, OutOfMemory, Phase, Ticks};
 use mse_calls::{FaultView, Ready};
 use std::alloc::Global;
@@ -51,8 +51,9 @@ fn fault_pair(fault: &Option<FaultView>) -> (u8, u64) {
 
 /// Does an item of work; what comes of it, or none where nothing runs.
 fn turn(scene: &mut OneBufferScene) -> Result<Option<Outcome>, OutOfMemory> {
-    match scene.buffer.turn(&scene.around)? {
-        Turned::Did(reply) => {
+    let mut reply = Reply::quiet(&scene.around.duration);
+    match scene.buffer.turn(&scene.around, &mut reply)? {
+        Turned::Did => {
             scene.around.duration = reply.duration;
             let (number, offset) = fault_pair(&reply.fault);
             Ok(Some((number, offset, reply.received_init)))
