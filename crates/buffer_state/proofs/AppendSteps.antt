@@ -1,5 +1,5 @@
 -- One step of an append, put together of its parts.
-use Rattle.std.proofs.Common.{◌≡◌, ◌∙◌, ℕ, true, false, [], refl, ap, sym, subst}
+use Rattle.std.proofs.Common.{◌≡◌, ◌∙◌, ℕ, true, refl, ap, sym, subst}
 use Rattle.std.specs.Prelude.{Option, Some, None, is_some}
 use Rattle.mse_base.specs.declared.track.Presentation.{Presentation}
 use Rattle.parser_loop.specs.Items.{InitItem, FrameItem, latest_after_any}
@@ -24,7 +24,7 @@ use Rattle.buffer_state.specs.declared.reply.Reply.{Reply}
 use Rattle.buffer_state.specs.declared.turns.ItemEffect.{ItemEffect}
 use Rattle.buffer_state.specs.declared.turns.ItemEffect.TheVariants as step
 use Rattle.buffer_state.specs.State.{Feed, Content, Surroundings, kept_buffer, Stands, feed_after, next_item}
-use Rattle.buffer_state.specs.Replies.{CallResult, IsBufferAnswer, IsResult, effect_reply}
+use Rattle.buffer_state.specs.Replies.{CallResult, IsBufferAnswer, IsResult}
 use Rattle.buffer_state.specs.Turns.{ItemResult, Done, AppendError, media_item_result, item_result, item_turn_result, append_turn_result}
 use Rattle.buffer_state.specs.Steps.{Took, step_result, step_of_item, step_turn, content_at, IsItemRefused}
 use Rattle.buffer_state.proofs.KeptBuffers.{answers, feed_at, content_of}
@@ -136,7 +136,3 @@ refused-step st e p at None m0 m1 d has some is h = absurd cc
 refused-step st e p at (Some fault) m0 m1 d has some is h =
     let there : init_result p m0 d ≡ media.AppendError fault m0 (segment_effect p d) = ap (λ (o : Option MediaFault). init_result_of o p m0 (segment_effect p d)) (sym has) in
     refused-by st e p at fault m0 m1 d (is ∙ there) there h
-
-pub no-fault : (p : Presentation) (m : Media) (o : Option MediaFault) → o ≡ init_fault p m → is_some o ≡ false → init_fault p m ≡ None
-no-fault p m None has none = sym has
-no-fault p m (Some fault) has none = absurd cc

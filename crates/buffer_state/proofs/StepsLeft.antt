@@ -25,7 +25,7 @@ use Rattle.buffer_state.specs.declared.running.Running.TheVariants.{Append}
 use Rattle.buffer_state.specs.declared.turns.ItemEffect.{ItemEffect}
 use Rattle.buffer_state.specs.declared.turns.ItemEffect.TheVariants as step
 use Rattle.buffer_state.specs.State.{Content, kept_buffer}
-use Rattle.buffer_state.specs.Steps.{IsLeftByStep, step_result, step_of_item, IsItemRefused}
+use Rattle.buffer_state.specs.Steps.{IsLeftByStep, step_result, step_of_item}
 use Rattle.buffer_state.specs.StepsLeft.{items_left, steps_left}
 use Rattle.buffer_state.proofs.AppendSteps.{IsStreamAfter}
 
@@ -63,12 +63,6 @@ fewer s0 s1 s2 m0 m2 r2 (Some item) (step.Done b) c d duration some goes e leave
     let one : items_left s1.parser + 1 ≡ items_left s0.parser = one-less s0 s1 item some goes in
     rw (leaves.0, leaves.1) (omega arith)
 fewer s0 s1 s2 m0 m2 r2 oi (step.AppendError fault at b) c d duration some goes e leaves = rw leaves (omega arith)
-
--- where nothing runs behind it
-pub fewer-error : (s0 s2 : StreamView) (m0 m2 : Media) (r2 : Running) (o : Option ByteItem) (m : Media) (d : Moment) (st : ItemEffect) → IsItemRefused st o m d → IsLeftByStep st s0 Append s2 r2 → steps_left (kept_buffer s2 m2 r2) < steps_left (kept_buffer s0 m0 Append)
-fewer-error s0 s2 m0 m2 r2 o m d step.NoItem h leaves = absurd h
-fewer-error s0 s2 m0 m2 r2 o m d (step.Done b) h leaves = absurd h
-fewer-error s0 s2 m0 m2 r2 o m d (step.AppendError fault at b) h leaves = rw leaves (omega arith)
 
 -- where an item was given, and the append goes on
 pub fewer-given : (s t : StreamView) (m n : Media) (running : Running) (item : ByteItem) → running ≡ Append → HasReading s → IsStreamAfter s (Some item) t → steps_left (kept_buffer t n running) < steps_left (kept_buffer s m running)

@@ -115,19 +115,19 @@ HasRangesAfterInit old reply new =
 
 -- ---- turns
 
--- which reply a turn stands for, if something ran: the one that was made, or that nothing comes, where the duration before
--- the turn was this
+-- the reply that a turn stands for, if something ran: the one that is there behind it, or, where it made none, the quiet
+-- one of the duration before it
 abbrev pub reply_of : Moment → Reply → Turned → Option Reply
 reply_of duration reply Did = Some reply
 reply_of duration reply Quiet = Some (quiet_reply duration)
 reply_of duration reply Idle = None
 
--- a reply is put in the place of another only where a turn says that it made one
-abbrev pub IsReplacedOnlyByDid : {E : Type 0} → Result Turned E → Reply → Reply → Type 0
-IsReplacedOnlyByDid (Ok Did) old new = Unit {0}
-IsReplacedOnlyByDid (Ok Quiet) old new = new ≡ old
-IsReplacedOnlyByDid (Ok Idle) old new = new ≡ old
-IsReplacedOnlyByDid (Err e) old new = new ≡ old
+-- a turn that made no reply left the one that was there
+abbrev pub IsReplyKeptUnlessDid : {E : Type 0} → Result Turned E → Reply → Reply → Type 0
+IsReplyKeptUnlessDid (Ok Did) old new = Unit {0}
+IsReplyKeptUnlessDid (Ok Quiet) old new = new ≡ old
+IsReplyKeptUnlessDid (Ok Idle) old new = new ≡ old
+IsReplyKeptUnlessDid (Err e) old new = new ≡ old
 
 -- something ran, or nothing did
 abbrev pub IsTurnResult : Option Reply → KeptBuffer → Option CallResult → Type 0
@@ -136,7 +136,8 @@ IsTurnResult (Some reply) k (Some result) = IsResult reply k result
 IsTurnResult None k None = Unit {0}
 IsTurnResult None k (Some result) = ⊥
 
--- the same of a turn, for every feed and content that was stood for, where there is memory
+-- the same of a turn, for every feed and content that was stood for, where there is memory; the moment is the duration
+-- before it, and the reply the one that is there behind it
 abbrev pub IsTurnIfOk : {E : Type 0} → Moment → Reply → KeptBuffer → Result Turned E → KeptBuffer
     → (Feed → Content → Option CallResult) → Type 0
 IsTurnIfOk duration reply old result new turn =

@@ -12,7 +12,7 @@ ghost use Rattle.track_buffers.specs.Media.{is_awaiting_first};
 ghost use Rattle.track_buffers.specs.Frames.{used_in, highest_start_in, highest_end_in};
 ghost use Rattle.track_buffers.specs.Buffered.{buffered_of, is_buffered_up_to};
 ghost use Rattle.buffer_state.specs.State.{Feed, Content, KeptBuffer, Stands, surroundings, append_input, new_feed, phase_in, ready_in, is_updating, is_appending, is_removing};
-ghost use Rattle.buffer_state.specs.Replies.{IsDone, IsReplacedOnlyByDid, IsStillWithin, HasRangesAfterInit, IsTurnIfOk, changes_of, reply_of};
+ghost use Rattle.buffer_state.specs.Replies.{IsDone, IsReplyKeptUnlessDid, IsStillWithin, HasRangesAfterInit, IsTurnIfOk, changes_of, reply_of};
 ghost use Rattle.buffer_state.specs.Turns.{turn_result};
 ghost use Rattle.buffer_state.specs.Calls.{has_generated_timestamps, end_work_result, buffer_view};
 ghost use Rattle.buffer_state.specs.declared.buffer_context.BufferContext.{BufferContext};
@@ -287,9 +287,9 @@ impl<S: FrameStore> Buffer<S> {
     }
 
     /// One step of the work that runs: the next item of an append or its end, or the whole of a
-    /// removal. Where it answers `Did`, its reply is in `reply`, which stays as it is else: most steps
-    /// make none, and a result would have room for one. It takes its memory first; an `Err` changes
-    /// nothing.
+    /// removal. Where it answers `Did`, it has put its reply into `reply`; otherwise `reply` stays as it
+    /// was. The reply is no part of the result, since most steps make none, and every result would be
+    /// as large as one. It takes its memory first; an `Err` changes nothing.
     pub fn turn(&mut self, around: &BufferContext, reply: &mut Reply) -> Result<Turned, OutOfMemory>
         ensures turned { IsTurnIfOk around.now.duration reply.new self.old result self.new
             (turn_result (surroundings around.now)) }
@@ -308,7 +308,7 @@ impl<S: FrameStore> Buffer<S> {
         ensures ranges { IfOk result
             (λ turned. IfSome (reply_of around.now.duration reply.new turned)
             (λ reply. HasRangesAfterInit self.old.media reply self.new.media)) }
-        ensures replaced { IsReplacedOnlyByDid result reply.old reply.new }
+        ensures kept { IsReplyKeptUnlessDid result reply.old reply.new }
         ensures err { OnErr result (self.new ≡ self.old) }
     {
         match &self.running {

@@ -11,7 +11,7 @@ ghost use Rattle.byte_stream.specs.Streams.{ForEachReading, HasReading, StreamVi
 ghost use Rattle.track_buffers.specs.Effects.{media_result, source_effect};
 ghost use Rattle.track_buffers.specs.Media.{Media, AreEndedWithin};
 ghost use Rattle.buffer_state.specs.State.{Content, kept_buffer, next_item, surroundings};
-ghost use Rattle.buffer_state.specs.Replies.{IsBufferAnswer, IsBufferAnswerIfOk, IsReplacedOnlyByDid, IsStillWithin, IsTurnIfOk, changes_of, reply_of};
+ghost use Rattle.buffer_state.specs.Replies.{IsBufferAnswer, IsBufferAnswerIfOk, IsReplyKeptUnlessDid, IsStillWithin, IsTurnIfOk, changes_of, reply_of};
 ghost use Rattle.buffer_state.specs.Turns.{append_turn_result, removal_turn_result, media_item_result};
 ghost use Rattle.buffer_state.specs.Steps.{IsReadyFor, IsPrepared, IsLeftByStep, Took, content_at, step_result, step_of_item, duration_after, changes_after, step_turn};
 ghost use Rattle.buffer_state.specs.StepsLeft.{IsFewer, IsIdle, steps_left};
@@ -20,7 +20,7 @@ use crate::buffer_context::BufferContext;
 use crate::faults::{Fault, fault_view};
 use crate::reply::{Reply, Turned, effect_reply, error_reply, event_reply, two};
 use crate::running::Running;
-use byte_stream::{ByteFault, ByteStream, Next};
+use byte_stream::{ByteStream, Next};
 use mse_base::{Moment, OutOfMemory, Presentation, Ticks};
 use mse_calls::{Changes, EventKind};
 use track_buffers::{
@@ -260,7 +260,7 @@ pub(crate) fn append_turn<S: FrameStore>(
         (kept_buffer stream.old media.old.media running.old)
         (kept_buffer stream.new media.new.media running.new)) }
     ensures none_offered { stream.new.offered ≡ None }
-    ensures replaced { IsReplacedOnlyByDid result reply.old reply.new }
+    ensures kept { IsReplyKeptUnlessDid result reply.old reply.new }
     ensures err { OnErr result (kept_buffer stream.new media.new.media running.new
         ≡ kept_buffer stream.old media.old.media running.old) }
 {

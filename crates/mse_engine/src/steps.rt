@@ -52,6 +52,7 @@ pub(crate) fn work_on<S: FrameStore>(
     let around = around(source, element, k);
     let mut bounds = LoadBounds::NONE;
     scenes::find_bounds(source, buffers, element, &mut bounds)?;
+    // a turn that makes a reply puts it here
     let mut reply = Reply::quiet(&around.duration);
     match buffers.turn(k, &around, &mut reply)? {
         Turned::Did => {

@@ -3,7 +3,7 @@ ghost use Rattle.mse_base.specs.declared.ticks.Moment.{Moment};
 ghost use Rattle.track_store.specs.State.{state_of};
 ghost use Rattle.buffer_state.specs.State.{surroundings};
 ghost use Rattle.buffer_state.specs.AllCalls.{call_at};
-ghost use Rattle.buffer_state.specs.Replies.{IsReplacedOnlyByDid, reply_of};
+ghost use Rattle.buffer_state.specs.Replies.{IsReplyKeptUnlessDid, reply_of};
 ghost use Rattle.buffer_state.specs.declared.buffer_context.BufferContext.{BufferContext};
 ghost use Rattle.track_buffers.specs.Buffered.{is_buffered_up_to};
 ghost use Rattle.source_buffers.specs.State.{BufferStates, AreSlotsStanding, HasStates, all_kept_media, all_kept_running, new_buffer};
@@ -154,8 +154,8 @@ impl<S: FrameStore> SourceBuffers<S> {
 
     /// One step of the work of the buffer of a number: the next item of an append or its end, or
     /// the whole of a removal; `Idle` exactly where nothing runs there, also where no buffer is. Where
-    /// it answers `Did`, its reply is in `reply`, which stays as it is else. It takes its memory first;
-    /// an `Err` changes nothing.
+    /// it answers `Did`, it has put its reply into `reply`; otherwise `reply` stays as it was. It takes
+    /// its memory first; an `Err` changes nothing.
     pub fn turn(
         &mut self,
         k: u32,
@@ -164,7 +164,7 @@ impl<S: FrameStore> SourceBuffers<S> {
     ) -> Result<Turned, OutOfMemory>
         ensures done { IfOk result (λ turned. IsTurnDoneInAll k (surroundings around.now)
             self.old.buffers (reply_of around.now.duration reply.new turned) self.new.buffers) }
-        ensures replaced { IsReplacedOnlyByDid result reply.old reply.new }
+        ensures kept { IsReplyKeptUnlessDid result reply.old reply.new }
         ensures len { length self.new.buffers ≡ length self.old.buffers }
         ensures spare { self.new.spare ≡ self.old.spare }
         ensures err { OnErr result (self.new ≡ self.old) }
@@ -335,7 +335,7 @@ fn turn_slot<S: FrameStore>(
 ) -> Result<Turned, OutOfMemory>
     ensures done { IfOk result (λ turned. IsTurnDoneInSlot (surroundings around.now) slot.old
         (reply_of around.now.duration reply.new turned) slot.new) }
-    ensures replaced { IsReplacedOnlyByDid result reply.old reply.new }
+    ensures kept { IsReplyKeptUnlessDid result reply.old reply.new }
     ensures err { OnErr result (slot.new ≡ slot.old) }
 {
     match slot {
