@@ -66,8 +66,6 @@ enum Step {
     SetWindow,
     /// Whether timestamps are to be generated.
     ChangeContainer(bool),
-    /// The track buffers are those of a new source buffer again.
-    Renew,
     /// Whether no initialization segment was received yet.
     AwaitsFirst(bool),
     /// Number, codec and count of frames of each track, and whether each needs a random access
@@ -215,11 +213,8 @@ fn flush(
     if far {
         second.pts = ticks(rt, 1 << 110);
     }
-    let mut frames = Vec::new(rt.alloc());
-    frames.push(first).expect(rt, "memory");
-    frames.push(second).expect(rt, "memory");
-    frames.push(third).expect(rt, "memory");
     buffers.reserve_frames(3).expect(rt, "memory");
+    let frames = Vec::from_array(rt.alloc(), [first, second, third]).expect(rt, "memory");
     let effect = buffers.flush(frames, Moment::At(Ticks::zero()));
     (effect.duration_changes, effect.duration)
 }
@@ -347,18 +342,23 @@ fn has(rt: &impl Abort, buffers: &Buffers, look: &Step) -> bool {
     }
 }
 
-/// Changes the settings, or removes frames; whether the step is such a call.
-fn changes(rt: &(impl Abort + AllocGlobal), buffers: &mut Buffers, step: &Step) -> bool {
+/// Changes the settings; whether the step is such a call.
+fn sets(rt: &impl Abort, buffers: &mut Buffers, step: &Step) -> bool {
     match *step {
-        Step::Remove(start) => {
-            buffers.remove(time(rt, start), Moment::Infinite, Moment::Infinite);
-        }
-        Step::Evict(new, quota) => buffers.evict(Ticks::zero(), new, quota, Moment::Infinite),
         Step::ResetParser => buffers.reset_parser(),
         Step::SetSequence(sequence) => buffers.set_mode(sequence),
         Step::SetOffset(offset) => buffers.set_offset(time(rt, offset)),
         Step::ChangeContainer(generate) => buffers.change_container(generate),
-        Step::Renew => *buffers = Buffers::new(rt.alloc(), Ticks::zero(), true),
+        _ => return false,
+    }
+    true
+}
+
+/// Removes frames; whether the step is such a call.
+fn removes(rt: &impl Abort, buffers: &mut Buffers, step: &Step) -> bool {
+    match *step {
+        Step::Remove(start) => buffers.remove(time(rt, start), Moment::Infinite, Moment::Infinite),
+        Step::Evict(new, quota) => buffers.evict(Ticks::zero(), new, quota, Moment::Infinite),
         _ => return false,
     }
     true
@@ -375,7 +375,7 @@ fn does(rt: &(impl Abort + AllocGlobal), buffers: &mut Buffers, step: &Step) -> 
             flush(rt, buffers, samples, far) == (changes, Moment::At(ticks(rt, duration)))
         }
         Step::SetWindow => sets_window(rt, buffers),
-        _ => changes(rt, buffers, step) || has(rt, buffers, step),
+        _ => sets(rt, buffers, step) || removes(rt, buffers, step) || has(rt, buffers, step),
     }
 }
 
@@ -407,7 +407,7 @@ const OTHER_VIDEO: &[Told] = &[(9, Kind::Video, *b"hvc1")];
 const UNKNOWN_AUDIO: &[Told] = &[VIDEO, (2, Kind::Audio, *b"flac")];
 
 /// What goes on in a later initialization segment: numbers may change, kinds and codecs may not.
-const INITIALIZATION_SEGMENTS: [(&str, &[Step]); 4] = [
+static INITIALIZATION_SEGMENTS: [(&str, &[Step]); 4] = [
     (
         "goes_on_by_kind",
         &[
@@ -481,7 +481,7 @@ const INITIALIZATION_SEGMENTS: [(&str, &[Step]); 4] = [
 ];
 
 /// Frames that are flushed, removed and evicted, and the settings.
-const CALLS: [(&str, &[Step]); 4] = [
+static CALLS: [(&str, &[Step]); 4] = [
     (
         "flushes_frames",
         &[
@@ -565,7 +565,7 @@ const CALLS: [(&str, &[Step]); 4] = [
 ];
 
 /// The ranges that all tracks have, the range of a time, and the first and the last range.
-const RANGES: [(&str, &[Step]); 6] = [
+static RANGES: [(&str, &[Step]); 6] = [
     (
         "buffers_what_all_tracks_have",
         &[
@@ -580,8 +580,6 @@ const RANGES: [(&str, &[Step]); 6] = [
             Step::Buffered(true, &[(1000, 3000), (6000, 9000)]),
             Step::Remove(6000),
             Step::Buffered(false, &[(1000, 3000)]),
-            Step::Renew,
-            Step::Buffered(true, &[]),
         ],
     ),
     // In a gap there is no range, and a range holds the time at which it ends. Where the source is
@@ -619,9 +617,6 @@ const RANGES: [(&str, &[Step]); 6] = [
             ]),
             Step::Bounds(false, Some((0, 3000)), Some((12000, 15000))),
             Step::Bounds(true, Some((0, 3000)), Some((12000, 15000))),
-            Step::Renew,
-            Step::Bounds(false, None, None),
-            Step::Bounds(true, None, None),
         ],
     ),
     // The first ranges of the two tracks share no tick, and neither do the last ones; where the
@@ -694,4 +689,14 @@ fn tells_ranges(rt: HostRuntime) {
     for (case, steps) in &RANGES {
         run(&rt, case, steps);
     }
+}
+
+/// A source buffer whose timestamps are generated tells no ranges either before its first frame.
+#[test]
+fn tells_no_ranges_of_a_new_source_buffer(rt: HostRuntime) {
+    let buffers = Buffers::new(rt.alloc(), Ticks::zero(), true);
+    let none = is_buffered(&rt, &buffers, true, &[]);
+    let no_bounds = has_bounds(&rt, &buffers, false, None, None);
+    let ended = has_bounds(&rt, &buffers, true, None, None);
+    assert!(rt; none && no_bounds && ended);
 }

@@ -5,9 +5,7 @@ use super::frames::{Sample, When, add_track, has_frames, moment, time};
 use super::rows::expect;
 use eviction::evict;
 use mse_base::Kind;
-use std::alloc::Global;
 use std::process::Abort;
-use std::test::Fail;
 use track_store::{FrameStore, ListStore, Marks, Tracks};
 
 /// A name, the kind and the frames of each track, the position, the new bytes, the quota, the
@@ -23,37 +21,37 @@ type Case = (
 );
 
 /// Whether the tracks hold these frames.
-fn are_left<S: FrameStore>(tracks: &Tracks<S>, left: &[&[u16]]) -> Result<bool, Fail> {
+fn are_left<S: FrameStore>(rt: &impl Abort, tracks: &Tracks<S>, left: &[&[u16]]) -> bool {
     for (place, frames) in left.iter().enumerate() {
-        if !has_frames(tracks, place, frames)? {
-            return Ok(false);
+        match tracks.get(place) {
+            Some(track) if has_frames(rt, &track.store, frames) => {}
+            _ => return false,
         }
     }
-    Ok(tracks.len() == left.len())
+    tracks.len() == left.len()
+}
+
+/// Evicts as a case says; whether that leaves what is wanted.
+fn evicts_once(rt: &impl Abort, tracks: &mut Tracks<ListStore>, case: &Case) -> bool {
+    let (_, _, position, new_bytes, quota, duration, left) = *case;
+    let position = time(rt, position);
+    evict(tracks, position, new_bytes, quota, moment(rt, duration));
+    are_left(rt, tracks, left)
 }
 
 /// Whether an eviction leaves what is wanted, and another one leaves it too.
-fn leaves(alloc: Global, case: &Case) -> Result<bool, Fail> {
-    let (_, lists, position, new_bytes, quota, duration, left) = *case;
-    let position = time(position)?;
-    let duration = moment(duration)?;
-    let mut tracks = Tracks::<ListStore>::new(alloc);
-    for (kind, samples) in lists {
-        add_track(&mut tracks, alloc, *kind, samples, Marks::new())?;
+fn leaves(rt: &(impl Abort + AllocGlobal), case: &Case) -> bool {
+    let mut tracks = Tracks::<ListStore>::new(rt.alloc());
+    for (kind, samples) in case.1 {
+        add_track(rt, &mut tracks, *kind, samples, Marks::new());
     }
-    for _ in 0..2 {
-        evict(&mut tracks, position, new_bytes, quota, duration);
-        if !are_left(&tracks, left)? {
-            return Ok(false);
-        }
-    }
-    Ok(true)
+    evicts_once(rt, &mut tracks, case) && evicts_once(rt, &mut tracks, case)
 }
 
 /// Three random access points a second apart.
 const SECONDS: &[(Kind, &[Sample])] = &[(Kind::Audio, &[(0, true), (1000, true), (2000, true)])];
 
-const CASES: [Case; 13] = [
+static CASES: [Case; 13] = [
     // The latest first, and no more than is needed.
     ("latest", SECONDS, 0, 4, 8, When::Infinite, &[&[0]]),
     ("no_more", SECONDS, 0, 0, 8, When::Infinite, &[&[0, 1000]]),
@@ -176,9 +174,8 @@ const CASES: [Case; 13] = [
 ];
 
 #[test]
-fn evicts(rt: HostRuntime) -> Result<(), Fail> {
+fn evicts(rt: HostRuntime) {
     for (i, case) in CASES.iter().enumerate() {
-        expect(&rt, case.0, i, leaves(rt.alloc(), case)?);
+        expect(&rt, case.0, i, leaves(&rt, case));
     }
-    Ok(())
 }

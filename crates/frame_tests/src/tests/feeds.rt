@@ -9,10 +9,9 @@ ghost use Rattle.track_store.specs.State.{state_of, states_of};
 use super::media::{REPLACED, Sample, feed_all, one_track, segments, time};
 use super::rows::expect;
 use decoder_feed::{FeedNext, Feeder, feed};
-use mse_base::{Kind, Moment, OutOfMemory, Ticks};
+use mse_base::{Kind, Moment, Ticks};
 use range_removal::remove_frames;
 use std::process::Abort;
-use std::test::Fail;
 use track_store::{FrameStore, ListStore, Settings, Track, Tracks};
 
 /// What happens to a track or its feeder, and what the feeder is to answer.
@@ -119,7 +118,7 @@ fn does<S: FrameStore>(
     feeder: &mut Feeder,
     scale: u32,
     step: &Step,
-) -> Result<bool, OutOfMemory>
+) -> bool
     requires sound_and_countable { AreSoundAndCountable (states_of S.frames tracks.old.items) }
     requires window_start { pos 0 ≤ℤ settings.old.window_start }
     ensures sound_and_countable { AreSoundAndCountable (states_of S.frames tracks.new.items) }
@@ -127,18 +126,18 @@ fn does<S: FrameStore>(
 {
     match *step {
         Step::Place(samples) => {
-            feed_all(rt, tracks, settings, scale, samples)?;
-            Ok(true)
+            feed_all(rt, tracks, settings, scale, samples);
+            true
         }
         Step::Remove(start, end) => {
             let start = time(rt, i128::from(start), scale);
             let end = Moment::At(time(rt, i128::from(end), scale));
             remove_frames(tracks, start, end, Moment::Infinite);
-            Ok(true)
+            true
         }
         _ => match first_of(tracks) {
-            Some(track) => Ok(asks(rt, feeder, track, scale, step)),
-            None => Ok(false),
+            Some(track) => asks(rt, feeder, track, scale, step),
+            None => false,
         },
     }
 }
@@ -147,16 +146,15 @@ fn does<S: FrameStore>(
 type Case = (&'static str, u32, &'static [Step]);
 
 /// Takes the steps of a case, from a track with no frames and a new feeder on.
-fn run<S: FrameStore>(rt: &(impl Abort + AllocGlobal), case: &Case) -> Result<(), Fail> {
+fn run<S: FrameStore>(rt: &(impl Abort + AllocGlobal), case: &Case) {
     let (name, scale, steps) = *case;
-    let mut tracks = one_track::<S>(rt.alloc(), Kind::Video, 0)?;
+    let mut tracks = one_track::<S>(rt, Kind::Video, 0);
     let mut settings = segments();
     let mut feeder = Feeder::new();
     for (i, step) in steps.iter().enumerate() {
-        let as_wanted = does(rt, &mut tracks, &mut settings, &mut feeder, scale, step)?;
+        let as_wanted = does(rt, &mut tracks, &mut settings, &mut feeder, scale, step);
         expect(rt, name, i, as_wanted);
     }
-    Ok(())
 }
 
 /// Four frames of which frames are removed.
@@ -175,7 +173,7 @@ const TWO_GROUPS: &[Sample] = &[
     (300, 100, 0, false),
 ];
 
-const CASES: [Case; 9] = [
+static CASES: [Case; 9] = [
     (
         "gives_a_group_up_to_the_end_of_the_track",
         90_000,
@@ -307,9 +305,8 @@ const CASES: [Case; 9] = [
 ];
 
 #[test]
-fn feeds_a_decoder(rt: HostRuntime) -> Result<(), Fail> {
+fn feeds_a_decoder(rt: HostRuntime) {
     for case in &CASES {
-        run::<ListStore>(&rt, case)?;
+        run::<ListStore>(&rt, case);
     }
-    Ok(())
 }

@@ -3,17 +3,17 @@
 ghost use Rattle.std.specs.Prelude.{◌≡◌, ◌≤◌, ◌+ℤ◌, pos, ◌≤ℤ◌, length, IfOk, IfSome};
 ghost use Rattle.mse_base.specs.Time.{IsTick};
 
+use super::rows::not_negative;
 use mse_base::{Bytes, CodedFrame, Kind, Moment, Ticks, convert};
-use std::alloc::Global;
-use std::test::Fail;
+use std::process::Abort;
 use track_store::{FrameStore, Marks, Stored, Track, Tracks};
 
 /// Presentation timestamp, and whether it is a random access point.
 pub(super) type Sample = (u16, bool);
 
 /// A time in milliseconds.
-pub(super) fn time(ms: u16) -> Result<Ticks, Fail> {
-    Ok(convert(i128::from(ms), 1000).ok_or("no time")?)
+pub(super) fn time(rt: &impl Abort, ms: u16) -> Ticks {
+    convert(i128::from(ms), 1000).expect(rt, "a time")
 }
 
 /// A moment, in milliseconds where it is a time.
@@ -24,37 +24,36 @@ pub(super) enum When {
     Nan,
 }
 
-pub(super) fn moment(when: When) -> Result<Moment, Fail> {
+pub(super) fn moment(rt: &impl Abort, when: When) -> Moment {
     match when {
-        When::At(ms) => Ok(Moment::At(time(ms)?)),
-        When::Infinite => Ok(Moment::Infinite),
-        When::Nan => Ok(Moment::Nan),
+        When::At(ms) => Moment::At(time(rt, ms)),
+        When::Infinite => Moment::Infinite,
+        When::Nan => Moment::Nan,
     }
 }
 
-/// The duration of a frame from `pts`; none where it is negative, or where the end is no tick.
-pub(super) fn duration_from(pts: Ticks, dur: Ticks) -> Option<Ticks>
-    ensures dur_not_negative { IfSome result (λ d. pos 0 ≤ℤ d) }
-    ensures end_is_tick { IfSome result (λ d. IsTick (pts +ℤ d)) }
+/// A frame that is decoded when it is shown, whose duration is not to be negative, and whose end is
+/// to be in range.
+pub(super) fn frame_at(
+    rt: &(impl Abort + AllocGlobal),
+    serial: u64,
+    pts: Ticks,
+    duration: Ticks,
+    sync: bool,
+    bytes: &[u8],
+) -> Stored
+    ensures serial { result.serial ≡ serial }
+    ensures sync { result.frame.sync ≡ sync }
+    ensures dur_not_negative { pos 0 ≤ℤ result.frame.dur }
+    ensures end_is_tick { IsTick (result.frame.pts +ℤ result.frame.dur) }
+    ensures bytes { length result.frame.payload ≡ length bytes.now }
 {
-    let end = pts.checked_add(dur)?;
+    let dur = not_negative(rt, duration);
+    let end = pts.checked_add(dur).expect(rt, "an end");
     // The proof reads off this that the end is a tick.
     let _in_range = end.get();
-    if dur < Ticks::zero() { None } else { Some(dur) }
-}
-
-/// A frame of 100 ms and 4 bytes.
-pub(super) fn frame_of(alloc: Global, serial: u64, ms: u16, sync: bool) -> Result<Stored, Fail>
-    ensures serial { IfOk result (λ f. f.serial ≡ serial) }
-    ensures sync { IfOk result (λ f. f.frame.sync ≡ sync) }
-    ensures dur_not_negative { IfOk result (λ f. pos 0 ≤ℤ f.frame.dur) }
-    ensures end_is_tick { IfOk result (λ f. IsTick (f.frame.pts +ℤ f.frame.dur)) }
-    ensures four_bytes { IfOk result (λ f. length f.frame.payload ≡ 4) }
-{
-    let pts = time(ms)?;
-    let dur = duration_from(pts, time(100)?).ok_or("no duration")?;
-    let payload = Bytes::copy_of(alloc, &[0; 4])?;
-    Ok(Stored {
+    let payload = Bytes::copy_of(rt.alloc(), bytes).expect(rt, "memory");
+    Stored {
         serial,
         frame: CodedFrame {
             track_id: 1,
@@ -64,35 +63,33 @@ pub(super) fn frame_of(alloc: Global, serial: u64, ms: u16, sync: bool) -> Resul
             sync,
             payload,
         },
-    })
+    }
 }
 
-/// The frames in order of appending; the first is a random access point.
-pub(super) fn store_of<S: FrameStore>(alloc: Global, samples: &[Sample]) -> Result<S, Fail>
-    requires { length samples.now ≤ 100 }
-{
-    let mut store = S::new(alloc, Ticks::zero());
-    store.reserve(samples.len())?;
+/// The frames in order of appending, of 100 ms and 4 bytes; the first is a random access point.
+pub(super) fn store_of<S: FrameStore>(rt: &(impl Abort + AllocGlobal), samples: &[Sample]) -> S {
+    assert!(rt; samples.len() <= 100);
+    let mut store = S::new(rt.alloc(), Ticks::zero());
+    store.reserve(samples.len()).expect(rt, "memory");
+    let duration = time(rt, 100);
     for (i, sample) in samples.iter().enumerate() {
-        let frame = frame_of(alloc, i as u64, sample.0, sample.1 || i == 0)?;
+        let sync = sample.1 || i == 0;
+        let frame = frame_at(rt, i as u64, time(rt, sample.0), duration, sync, &[0; 4]);
         store.add(frame);
     }
-    Ok(store)
+    store
 }
 
 /// A track with these marks that holds the frames of samples.
 pub(super) fn add_track<S: FrameStore>(
+    rt: &(impl Abort + AllocGlobal),
     tracks: &mut Tracks<S>,
-    alloc: Global,
     kind: Kind,
     samples: &[Sample],
     marks: Marks,
-) -> Result<(), Fail> {
-    if samples.len() > 100 {
-        return Err("more than 100 frames".into());
-    }
-    let store = store_of(alloc, samples)?;
-    tracks.reserve(1)?;
+) {
+    let store = store_of(rt, samples);
+    tracks.reserve(1).expect(rt, "memory");
     tracks.add(Track {
         id: 1,
         kind,
@@ -100,21 +97,15 @@ pub(super) fn add_track<S: FrameStore>(
         store,
         marks,
     });
-    Ok(())
 }
 
-/// Whether a track holds the frames with these presentation timestamps.
-pub(super) fn has_frames<S: FrameStore>(
-    tracks: &Tracks<S>,
-    place: usize,
-    wanted: &[u16],
-) -> Result<bool, Fail> {
-    let track = tracks.get(place).ok_or("no track")?;
+/// Whether a store holds the frames with these presentation timestamps.
+pub(super) fn has_frames<S: FrameStore>(rt: &impl Abort, store: &S, wanted: &[u16]) -> bool {
     for (i, ms) in wanted.iter().enumerate() {
-        let pts = track.store.get(i).map(|stored| stored.frame.pts);
-        if pts != Some(time(*ms)?) {
-            return Ok(false);
+        match store.get(i) {
+            Some(stored) if stored.frame.pts == time(rt, *ms) => {}
+            _ => return false,
         }
     }
-    Ok(track.store.len() == wanted.len())
+    store.len() == wanted.len()
 }

@@ -1,13 +1,13 @@
 //! Coded frames that are told in media time, and tracks that they are placed in.
 
-ghost use Rattle.std.specs.Prelude.{◌≡◌, ◌<◌, ◌≤◌, ◌^◌, [], pos, ◌≤ℤ◌, length, IfOk, IfSome, slice_get, OnOk};
+ghost use Rattle.std.specs.Prelude.{◌≡◌, ◌<◌, ◌≤◌, ◌^◌, [], pos, ◌≤ℤ◌, length, IfSome, slice_get};
 ghost use Rattle.track_store.specs.State.{state_of, states_of};
 ghost use Rattle.track_store.specs.Sound.{IsSound};
 ghost use Rattle.track_store.specs.Kept.{IsCountable, AreSoundAndCountable};
 
 use super::rows::not_negative;
 use frame_rules::{Placed, place};
-use mse_base::{Bytes, CodedFrame, Kind, Moment, OutOfMemory, Ticks, convert};
+use mse_base::{Bytes, CodedFrame, Kind, Moment, Ticks, convert};
 use std::alloc::Global;
 use std::process::Abort;
 use track_store::{FrameStore, Marks, Settings, Track, Tracks};
@@ -87,44 +87,40 @@ pub(super) fn empty_track<S: FrameStore>(alloc: Global, kind: Kind, received: u6
 
 /// One track with no frames.
 pub(super) fn one_track<S: FrameStore>(
-    alloc: Global,
+    rt: &(impl Abort + AllocGlobal),
     kind: Kind,
     received: u64,
-) -> Result<Tracks<S>, OutOfMemory>
+) -> Tracks<S>
     requires { received ≤ 2 ^ 62 }
-    ensures one { IfOk result (λ ts. length ts.items ≡ 1) }
-    ensures sound_and_countable { IfOk result (λ ts.
-        AreSoundAndCountable (states_of S.frames ts.items)) }
+    ensures one { length result.items ≡ 1 }
+    ensures sound_and_countable { AreSoundAndCountable (states_of S.frames result.items) }
 {
-    let mut tracks = Tracks::new(alloc);
-    tracks.reserve(1)?;
-    tracks.add(empty_track(alloc, kind, received));
-    Ok(tracks)
+    let mut tracks = Tracks::new(rt.alloc());
+    tracks.reserve(1).expect(rt, "memory");
+    tracks.add(empty_track(rt.alloc(), kind, received));
+    tracks
 }
 
 /// Makes room for one frame in a track.
-pub(super) fn reserve_at<S: FrameStore>(
-    tracks: &mut Tracks<S>,
-    index: usize,
-) -> Result<(), OutOfMemory>
-    ensures spare { OnOk result (IfSome (slice_get tracks.new.items index)
-        (λ t. 1 ≤ S.spare t.store)) }
+pub(super) fn reserve_at<S: FrameStore>(rt: &impl Abort, tracks: &mut Tracks<S>, index: usize)
+    ensures spare { IfSome (slice_get tracks.new.items index) (λ t. 1 ≤ S.spare t.store) }
     ensures states { states_of S.frames tracks.new.items ≡ states_of S.frames tracks.old.items }
     ensures len { length tracks.new.items ≡ length tracks.old.items }
 {
     match tracks.get_mut(index) {
-        Some(track) => track.store.reserve(1),
-        None => Ok(()),
+        Some(track) => track.store.reserve(1).expect(rt, "memory"),
+        None => {}
     }
 }
 
 /// Places a frame in a track.
 pub(super) fn feed<S: FrameStore>(
+    rt: &impl Abort,
     tracks: &mut Tracks<S>,
     settings: &mut Settings,
     index: usize,
     frame: CodedFrame,
-) -> Result<Placed, OutOfMemory>
+) -> Placed
     requires in_range { index < length tracks.old.items }
     requires sound_and_countable { AreSoundAndCountable (states_of S.frames tracks.old.items) }
     requires window_start { pos 0 ≤ℤ settings.old.window_start }
@@ -133,8 +129,8 @@ pub(super) fn feed<S: FrameStore>(
     ensures sound_and_countable { AreSoundAndCountable (states_of S.frames tracks.new.items) }
     ensures window_start { pos 0 ≤ℤ settings.new.window_start }
 {
-    reserve_at(tracks, index)?;
-    Ok(place(tracks, settings, index, frame))
+    reserve_at(rt, tracks, index);
+    place(tracks, settings, index, frame)
 }
 
 /// Places the frames of samples in the first track.
@@ -144,7 +140,7 @@ pub(super) fn feed_all<S: FrameStore>(
     settings: &mut Settings,
     scale: u32,
     samples: &[Sample],
-) -> Result<(), OutOfMemory>
+)
     requires sound_and_countable { AreSoundAndCountable (states_of S.frames tracks.old.items) }
     requires window_start { pos 0 ≤ℤ settings.old.window_start }
     ensures sound_and_countable { AreSoundAndCountable (states_of S.frames tracks.new.items) }
@@ -153,7 +149,6 @@ pub(super) fn feed_all<S: FrameStore>(
     for sample in samples {
         assert!(rt; tracks.len() != 0);
         let frame = frame_of(rt, scale, sample);
-        let _placed = feed(tracks, settings, 0, frame)?;
+        let _placed = feed(rt, tracks, settings, 0, frame);
     }
-    Ok(())
 }

@@ -1,133 +1,106 @@
 //! Which frames go for a new frame, and which are cut, tick by tick, on a plain store. All frames
 //! are random access points.
 
-ghost use Rattle.std.specs.Prelude.{◌≡◌, ◌+ℤ◌, pos, ◌≤ℤ◌, true, length, IfOk};
-ghost use Rattle.mse_base.specs.Time.{IsTick};
-
-use super::frames::duration_from;
-use super::rows::expect;
-use mse_base::{Bytes, CodedFrame, Kind, Ticks};
+use super::frames::frame_at;
+use super::rows::{expect, ticks};
+use mse_base::{Kind, Ticks};
 use overlap_rules::make_room;
-use std::alloc::Global;
 use std::process::Abort;
-use std::test::Fail;
-use track_store::{FrameStore, ListStore, Marks, Stored, Track};
+use track_store::{FrameStore, ListStore, Marks, Track};
 
 /// Presentation timestamp and duration, in ticks.
-type Interval = (i32, i32);
+type Interval = (i128, i128);
 
-fn ticks(v: i32) -> Result<Ticks, Fail> {
-    Ok(Ticks::new(i128::from(v)).ok_or("no time")?)
-}
-
-/// A random access point with no bytes.
-fn frame_of(alloc: Global, serial: u64, interval: Interval) -> Result<Stored, Fail>
-    ensures serial { IfOk result (λ f. f.serial ≡ serial) }
-    ensures sync { IfOk result (λ f. f.frame.sync ≡ true) }
-    ensures dur_not_negative { IfOk result (λ f. pos 0 ≤ℤ f.frame.dur) }
-    ensures end_is_tick { IfOk result (λ f. IsTick (f.frame.pts +ℤ f.frame.dur)) }
-    ensures empty { IfOk result (λ f. length f.frame.payload ≡ 0) }
-{
-    let (begin, duration) = interval;
-    let pts = ticks(begin)?;
-    let dur = duration_from(pts, ticks(duration)?).ok_or("no duration")?;
-    let payload = Bytes::copy_of(alloc, &[])?;
-    Ok(Stored {
-        serial,
-        frame: CodedFrame {
-            track_id: 1,
-            pts,
-            dts: pts,
-            dur,
-            sync: true,
-            payload,
-        },
-    })
-}
-
-/// The frames in order of appending, with the serials from 0 on.
-fn store_of<S: FrameStore>(alloc: Global, intervals: &[Interval]) -> Result<S, Fail> {
-    let mut store = S::new(alloc, Ticks::zero());
-    store.reserve(intervals.len())?;
-    for (i, interval) in intervals.iter().enumerate() {
-        let frame = frame_of(alloc, i as u64, *interval)?;
+/// The frames in order of appending, with the serials from one on and no bytes.
+fn store_of<S: FrameStore>(
+    rt: &(impl Abort + AllocGlobal),
+    first: u64,
+    intervals: &[Interval],
+) -> S {
+    let mut store = S::new(rt.alloc(), Ticks::zero());
+    store.reserve(intervals.len()).expect(rt, "memory");
+    for (i, (begin, duration)) in intervals.iter().enumerate() {
+        let pts = ticks(rt, *begin);
+        let duration = ticks(rt, *duration);
+        assert!(rt; i as u64 <= u64::MAX - first);
+        let frame = frame_at(rt, first + i as u64, pts, duration, true, &[]);
         store.add(frame);
     }
-    Ok(store)
+    store
 }
 
 /// The marks of a track whose group has a highest end timestamp, and begins with frame 6; those of
 /// a new track where there is none.
-fn marks_with(highest_end: Option<i32>) -> Result<Marks, Fail> {
+fn marks_with(rt: &impl Abort, highest_end: Option<i128>) -> Marks {
     match highest_end {
-        Some(end) => Ok(Marks {
+        Some(end) => Marks {
             last_decode: Some(Ticks::zero()),
             last_duration: Some(Ticks::zero()),
-            highest_end: Some(ticks(end)?),
+            highest_end: Some(ticks(rt, end)),
             group_first: Some(6),
             need_sync: false,
             received: 7,
-        }),
-        None => Ok(Marks::new()),
+        },
+        None => Marks::new(),
     }
 }
 
 /// Makes room for a new frame in a track.
-fn make_room_for<S: FrameStore>(track: &mut Track<S>, new: Interval) -> Result<(), Fail> {
-    let pts = ticks(new.0)?;
-    let end = pts.checked_add(ticks(new.1)?).ok_or("no time")?;
+fn make_room_for<S: FrameStore>(rt: &impl Abort, track: &mut Track<S>, new: Interval) {
+    let pts = ticks(rt, new.0);
+    let end = pts.checked_add(ticks(rt, new.1)).expect(rt, "an end");
     make_room(track, pts, end);
-    Ok(())
 }
 
 /// Whether a store has frames of these intervals.
-fn has_frames<S: FrameStore>(store: &S, wanted: &[Interval]) -> Result<bool, Fail> {
+fn has_frames<S: FrameStore>(store: &S, wanted: &[Interval]) -> bool {
     for (i, (begin, duration)) in wanted.iter().enumerate() {
-        let interval = (ticks(*begin)?, ticks(*duration)?);
         match store.get(i) {
             Some(stored) => {
-                if (stored.frame.pts, stored.frame.dur) != interval {
-                    return Ok(false);
+                if stored.frame.pts.get() != *begin || stored.frame.dur.get() != *duration {
+                    return false;
                 }
             }
-            None => return Ok(false),
+            None => return false,
         }
     }
-    Ok(store.len() == wanted.len())
+    store.len() == wanted.len()
 }
 
 /// The kind of a track, the highest end timestamp of its group, its frames, a new frame, and what is
 /// left of the frames where room was made for it.
 type Row = (
     Kind,
-    Option<i32>,
+    Option<i128>,
     &'static [Interval],
     Interval,
     &'static [Interval],
 );
 
-/// Whether what is wanted is left of the frames.
-fn leaves(alloc: Global, row: &Row) -> Result<bool, Fail> {
+/// Whether what is wanted is left of the frames, the first of which has this serial.
+fn leaves(rt: &(impl Abort + AllocGlobal), first: u64, row: &Row) -> bool {
     let (kind, highest_end, frames, new, left) = *row;
     let mut track = Track {
         id: 1,
         kind,
         codec: *b"avc1",
-        store: store_of::<ListStore>(alloc, frames)?,
-        marks: marks_with(highest_end)?,
+        store: store_of::<ListStore>(rt, first, frames),
+        marks: marks_with(rt, highest_end),
     };
-    make_room_for(&mut track, new)?;
+    make_room_for(rt, &mut track, new);
     has_frames(&track.store, left)
 }
 
 /// The frames of a group that has begun.
 const GROUP: &[Interval] = &[(0, 20), (7, 0), (8, 0), (10, 0), (20, 0), (19, 0), (15, 0)];
 
-const CASES: [(&str, &[Row]); 4] = [
+/// Names, the serial of the first frame, and rows.
+static CASES: [(&str, u64, &[Row]); 5] = [
     // A frame is overlapped from its presentation timestamp on, and not at its end. A new frame of
     // no duration removes no other frames.
     (
         "overlaps_up_to_the_end",
+        0,
         &[
             (Kind::Video, None, &[(10, 20)], (9, 0), &[(10, 20)]),
             (Kind::Audio, None, &[(10, 20)], (9, 0), &[(10, 20)]),
@@ -145,6 +118,7 @@ const CASES: [(&str, &[Row]); 4] = [
     // that begin together the one appended later.
     (
         "overlaps_the_later_appended",
+        0,
         &[
             (Kind::Video, None, &[(0, 20), (0, 30)], (10, 0), &[(0, 20)]),
             (
@@ -184,6 +158,7 @@ const CASES: [(&str, &[Row]); 4] = [
     // before its end.
     (
         "first_frame_of_a_group",
+        0,
         &[
             (
                 Kind::Video,
@@ -205,6 +180,7 @@ const CASES: [(&str, &[Row]); 4] = [
     // begin from there on, but for those of its own group, and the overlapped frame stays.
     (
         "next_frame_of_a_group",
+        0,
         &[
             (
                 Kind::Video,
@@ -223,34 +199,22 @@ const CASES: [(&str, &[Row]); 4] = [
             (Kind::Video, Some(11), GROUP, (10, 10), GROUP),
         ],
     ),
+    // A frame of the greatest serial that there is goes like any other.
+    (
+        "removes_the_greatest_serial",
+        u64::MAX,
+        &[
+            (Kind::Video, None, &[(15, 10)], (10, 5), &[(15, 10)]),
+            (Kind::Video, None, &[(15, 10)], (10, 6), &[]),
+        ],
+    ),
 ];
 
 #[test]
-fn makes_room(rt: HostRuntime) -> Result<(), Fail> {
-    for (case, rows) in &CASES {
+fn makes_room(rt: HostRuntime) {
+    for (case, first, rows) in &CASES {
         for (i, row) in rows.iter().enumerate() {
-            expect(&rt, case, i, leaves(rt.alloc(), row)?);
+            expect(&rt, case, i, leaves(&rt, *first, row));
         }
     }
-    Ok(())
-}
-
-/// A frame of the greatest serial that there is goes like any other.
-#[test]
-fn removes_the_greatest_serial(rt: HostRuntime) -> Result<(), Fail> {
-    let mut store = ListStore::new(rt.alloc(), Ticks::zero());
-    store.reserve(1)?;
-    store.add(frame_of(rt.alloc(), u64::MAX, (15, 10))?);
-    let mut track = Track {
-        id: 1,
-        kind: Kind::Video,
-        codec: *b"avc1",
-        store,
-        marks: Marks::new(),
-    };
-    make_room_for(&mut track, (10, 5))?;
-    expect(&rt, "before the frame", 0, track.store.len() == 1);
-    make_room_for(&mut track, (10, 6))?;
-    expect(&rt, "over the frame", 0, track.store.len() == 0);
-    Ok(())
 }

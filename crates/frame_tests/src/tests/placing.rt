@@ -1,50 +1,46 @@
 //! Worked examples of coded frame processing, on a plain store. Times are told in media time, and
 //! ranges in ticks.
 
-ghost use Rattle.std.specs.Prelude.{◌≡◌, ◌<◌, ◌≤◌, ◌^◌, pos, ◌≤ℤ◌, length, IfOk, IfSome, slice_get};
+ghost use Rattle.std.specs.Prelude.{◌≡◌, ◌<◌, ◌≤◌, ◌^◌, pos, ◌≤ℤ◌, length, IfSome, slice_get};
 ghost use Rattle.track_store.specs.State.{states_of};
 ghost use Rattle.track_store.specs.Sound.{IsSound};
 ghost use Rattle.track_store.specs.Kept.{IsCountable, bytes_in, AreSoundAndCountable};
 
+use super::frames::frame_at;
 use super::media::{
     REPLACED, Sample, empty_track, feed, feed_all, frame_of, one_track, reserve_at, segments, time,
 };
 use super::rows::{Bounds, are, expect, not_negative, ticks};
 use frame_rules::{Placed, Why, place};
-use mse_base::{Bytes, CodedFrame, Kind, OutOfMemory, Ticks};
-use std::alloc::Global;
+use mse_base::{Kind, Ticks};
 use std::process::Abort;
-use std::test::Fail;
 use track_store::{FrameStore, ListStore, Marks, Settings, Track, Tracks};
 
 /// Two tracks with no frames.
-fn two_tracks<S: FrameStore>(alloc: Global) -> Result<Tracks<S>, OutOfMemory>
-    ensures two { IfOk result (λ ts. length ts.items ≡ 2) }
-    ensures sound_and_countable { IfOk result (λ ts.
-        AreSoundAndCountable (states_of S.frames ts.items)) }
+fn two_tracks<S: FrameStore>(rt: &(impl Abort + AllocGlobal)) -> Tracks<S>
+    ensures { AreSoundAndCountable (states_of S.frames result.items) }
 {
-    let mut tracks = Tracks::new(alloc);
-    tracks.reserve(2)?;
-    tracks.add(empty_track(alloc, Kind::Video, 0));
-    tracks.add(empty_track(alloc, Kind::Audio, 0));
-    Ok(tracks)
+    let mut tracks = Tracks::new(rt.alloc());
+    tracks.reserve(2).expect(rt, "memory");
+    tracks.add(empty_track(rt.alloc(), Kind::Video, 0));
+    tracks.add(empty_track(rt.alloc(), Kind::Audio, 0));
+    tracks
 }
 
 /// Two tracks with no frames, of which the second claims to hold the frame it received last.
-fn beside_unsound<S: FrameStore>(alloc: Global) -> Result<Tracks<S>, OutOfMemory>
-    ensures two { IfOk result (λ ts. length ts.items ≡ 2) }
-    ensures sound { IfOk result (λ ts. IfSome (slice_get (states_of S.frames ts.items) 0) IsSound) }
-    ensures counted { IfOk result (λ ts.
-        IfSome (slice_get (states_of S.frames ts.items) 0) IsCountable) }
-    ensures small { IfOk result (λ ts. bytes_in (states_of S.frames ts.items) < 2 ^ 62) }
+fn beside_unsound<S: FrameStore>(rt: &(impl Abort + AllocGlobal)) -> Tracks<S>
+    ensures two { length result.items ≡ 2 }
+    ensures sound { IfSome (slice_get (states_of S.frames result.items) 0) IsSound }
+    ensures counted { IfSome (slice_get (states_of S.frames result.items) 0) IsCountable }
+    ensures small { bytes_in (states_of S.frames result.items) < 2 ^ 62 }
 {
-    let mut tracks = Tracks::new(alloc);
-    tracks.reserve(2)?;
-    tracks.add(empty_track(alloc, Kind::Video, 0));
-    let mut other = empty_track(alloc, Kind::Audio, 0);
+    let mut tracks = Tracks::new(rt.alloc());
+    tracks.reserve(2).expect(rt, "memory");
+    tracks.add(empty_track(rt.alloc(), Kind::Video, 0));
+    let mut other = empty_track(rt.alloc(), Kind::Audio, 0);
     other.marks.need_sync = false;
     tracks.add(other);
-    Ok(tracks)
+    tracks
 }
 
 /// A change of the settings, samples that are placed, or what then holds. Times are in units of
@@ -113,36 +109,44 @@ fn has_frames<S: FrameStore>(
     track.store.len() == wanted.len()
 }
 
+/// The track at a place.
+fn track_at<'a, S: FrameStore>(
+    rt: &impl Abort,
+    tracks: &'a Tracks<S>,
+    place: usize,
+) -> &'a Track<S> {
+    tracks.get(place).expect(rt, "a track")
+}
+
+/// Whether the track has these ranges.
+fn has_ranges<S: FrameStore>(rt: &impl Abort, track: &Track<S>, wanted: &[Bounds]) -> bool {
+    are(&track.store.copy_ranges().expect(rt, "memory"), wanted)
+}
+
+/// Whether the marks tell this serial, how many frames were received, and this decode time.
+fn are_marks(marks: &Marks, first: Option<u64>, received: u64, decode: Ticks) -> bool {
+    marks.group_first == first && marks.received == received && marks.last_decode == Some(decode)
+}
+
 /// Whether the track at a place, its marks or its ranges are as is wanted.
 fn has_track<S: FrameStore>(rt: &impl Abort, tracks: &Tracks<S>, scale: u32, step: &Step) -> bool {
     match *step {
-        Step::Frames(wanted) => match tracks.get(0) {
-            Some(track) => has_frames(rt, track, scale, wanted),
-            None => false,
-        },
-        Step::Ranges(wanted) => match tracks.get(0) {
-            Some(track) => are(&track.store.copy_ranges().expect(rt, "memory"), wanted),
-            None => false,
-        },
+        Step::Frames(wanted) => has_frames(rt, track_at(rt, tracks, 0), scale, wanted),
+        Step::Ranges(wanted) => has_ranges(rt, track_at(rt, tracks, 0), wanted),
         Step::HighestEnd(m) => {
-            marks_at(rt, tracks, 0).highest_end == Some(time(rt, i128::from(m), scale))
+            let end = time(rt, i128::from(m), scale);
+            track_at(rt, tracks, 0).marks.highest_end == Some(end)
         }
         Step::Marks(place, first, received, decode) => {
-            let marks = marks_at(rt, tracks, place);
-            let decode = Some(time(rt, i128::from(decode), scale));
-            (marks.group_first, marks.received, marks.last_decode) == (first, received, decode)
+            let decode = time(rt, i128::from(decode), scale);
+            are_marks(&track_at(rt, tracks, place).marks, first, received, decode)
         }
         Step::Unset(place) => {
-            let marks = marks_at(rt, tracks, place);
+            let marks = track_at(rt, tracks, place).marks;
             marks == marks.unset_marks()
         }
         _ => false,
     }
-}
-
-/// The marks of the track at a place.
-fn marks_at<S: FrameStore>(rt: &impl Abort, tracks: &Tracks<S>, place: usize) -> Marks {
-    tracks.get(place).expect(rt, "a track").marks
 }
 
 /// Whether tracks and settings are as is wanted.
@@ -168,7 +172,7 @@ fn does<S: FrameStore>(
     settings: &mut Settings,
     scale: u32,
     step: &Step,
-) -> Result<bool, OutOfMemory>
+) -> bool
     requires sound_and_countable { AreSoundAndCountable (states_of S.frames tracks.old.items) }
     requires window_start { pos 0 ≤ℤ settings.old.window_start }
     ensures sound_and_countable { AreSoundAndCountable (states_of S.frames tracks.new.items) }
@@ -176,15 +180,15 @@ fn does<S: FrameStore>(
 {
     match *step {
         Step::PlaceAll(samples) => {
-            feed_all(rt, tracks, settings, scale, samples)?;
-            Ok(true)
+            feed_all(rt, tracks, settings, scale, samples);
+            true
         }
         Step::Place(index, sample, wanted) => {
             let frame = frame_of(rt, scale, &sample);
             assert!(rt; index < tracks.len());
-            Ok(feed(tracks, settings, index, frame)? == wanted)
+            feed(rt, tracks, settings, index, frame) == wanted
         }
-        _ => Ok(sets(rt, settings, scale, step) || has(rt, tracks, settings, scale, step)),
+        _ => sets(rt, settings, scale, step) || has(rt, tracks, settings, scale, step),
     }
 }
 
@@ -193,28 +197,24 @@ fn does<S: FrameStore>(
 type Case = (&'static str, &'static [Kind], u32, &'static [Step]);
 
 /// Tracks of these kinds with no frames.
-fn tracks_of<S: FrameStore>(alloc: Global, kinds: &[Kind]) -> Result<Tracks<S>, Fail>
-    ensures { IfOk result (λ ts. AreSoundAndCountable (states_of S.frames ts.items)) }
+fn tracks_of<S: FrameStore>(rt: &(impl Abort + AllocGlobal), kinds: &[Kind]) -> Tracks<S>
+    ensures { AreSoundAndCountable (states_of S.frames result.items) }
 {
-    match kinds.get(1) {
-        Some(_) => Ok(two_tracks(alloc)?),
-        None => {
-            let kind = kinds.first().ok_or("no kind")?;
-            Ok(one_track(alloc, *kind, 0)?)
-        }
+    match *kinds {
+        [kind] => one_track(rt, kind, 0),
+        _ => two_tracks(rt),
     }
 }
 
 /// Takes the steps of a case.
-fn run<S: FrameStore>(rt: &(impl Abort + AllocGlobal), case: &Case) -> Result<(), Fail> {
+fn run<S: FrameStore>(rt: &(impl Abort + AllocGlobal), case: &Case) {
     let (name, kinds, scale, steps) = *case;
-    let mut tracks = tracks_of::<S>(rt.alloc(), kinds)?;
+    let mut tracks = tracks_of::<S>(rt, kinds);
     let mut settings = segments();
     for (i, step) in steps.iter().enumerate() {
-        let as_wanted = does(rt, &mut tracks, &mut settings, scale, step)?;
+        let as_wanted = does(rt, &mut tracks, &mut settings, scale, step);
         expect(rt, name, i, as_wanted);
     }
-    Ok(())
 }
 
 const DROPPED: Placed = Placed::Dropped(Why::NoSync);
@@ -227,7 +227,7 @@ const BOTH: &[Kind] = &[Kind::Video, Kind::Audio];
 
 /// A new random access point goes over frames of earlier groups; the frames of one group never
 /// remove each other; and frames before the append window.
-const REPLACEMENTS: [Case; 10] = [
+static REPLACEMENTS: [Case; 10] = [
     // It begins where the second frame does: that one goes, and the two that follow it.
     (
         "replaces_older_frames",
@@ -359,7 +359,7 @@ const REPLACEMENTS: [Case; 10] = [
 ];
 
 /// What a leap of the decode time does, and what is of all tracks.
-const LEAPS: [Case; 8] = [
+static LEAPS: [Case; 8] = [
     (
         "goes_on_after_a_discontinuity_in_segments",
         VIDEO,
@@ -501,19 +501,17 @@ const LEAPS: [Case; 8] = [
 ];
 
 #[test]
-fn replaces(rt: HostRuntime) -> Result<(), Fail> {
+fn replaces(rt: HostRuntime) {
     for case in &REPLACEMENTS {
-        run::<ListStore>(&rt, case)?;
+        run::<ListStore>(&rt, case);
     }
-    Ok(())
 }
 
 #[test]
-fn goes_on_after_leaps(rt: HostRuntime) -> Result<(), Fail> {
+fn goes_on_after_leaps(rt: HostRuntime) {
     for case in &LEAPS {
-        run::<ListStore>(&rt, case)?;
+        run::<ListStore>(&rt, case);
     }
-    Ok(())
 }
 
 /// What a track with no frames answers to its first frame, its marks, and how many frames it has.
@@ -523,24 +521,15 @@ fn first_call(
     received: u64,
     pts: i128,
     sync: bool,
-) -> Result<(Placed, Marks, usize), OutOfMemory>
+) -> (Placed, Marks, usize)
     requires window_start { pos 0 ≤ℤ settings.old.window_start }
     requires few { received ≤ 2 ^ 62 }
 {
-    let mut tracks = one_track::<ListStore>(rt.alloc(), Kind::Video, received)?;
-    let begin = ticks(rt, pts);
-    let dur = not_negative(rt, ticks(rt, 10));
-    let frame = CodedFrame {
-        track_id: 1,
-        pts: begin,
-        dts: begin,
-        dur,
-        sync,
-        payload: Bytes::copy_of(rt.alloc(), b"1234")?,
-    };
-    let placed = feed(&mut tracks, settings, 0, frame)?;
+    let mut tracks = one_track::<ListStore>(rt, Kind::Video, received);
+    let stored = frame_at(rt, 0, ticks(rt, pts), ticks(rt, 10), sync, b"1234");
+    let placed = feed(rt, &mut tracks, settings, 0, stored.frame);
     let track = tracks.get(0).expect(rt, "a track");
-    Ok((placed, track.marks, track.store.len()))
+    (placed, track.marks, track.store.len())
 }
 
 /// A name; how much later the append window starts and the offset, in ticks; how many frames the
@@ -548,7 +537,7 @@ fn first_call(
 /// becomes of it. A frame that is refused leaves marks and settings.
 type FirstFrame = (&'static str, i128, i128, u64, i128, bool, Placed);
 
-const FIRST_FRAMES: [FirstFrame; 4] = [
+static FIRST_FRAMES: [FirstFrame; 4] = [
     (
         "before_the_window",
         1,
@@ -578,49 +567,47 @@ fn are_marks_behind(marks: &Marks, received: u64, placed: Placed) -> bool {
 }
 
 /// Whether what is wanted becomes of a first frame, which is not stored.
-fn is_answered(rt: &(impl Abort + AllocGlobal), frame: &FirstFrame) -> Result<bool, OutOfMemory> {
+fn is_answered(rt: &(impl Abort + AllocGlobal), frame: &FirstFrame) -> bool {
     let (_, start, offset, received, pts, sync, wanted) = *frame;
     assert!(rt; received <= 1 << 62);
     let mut settings = segments();
     settings.window_start = not_negative(rt, ticks(rt, start));
     settings.offset = ticks(rt, offset);
     let before = settings;
-    let (placed, marks, len) = first_call(rt, &mut settings, received, pts, sync)?;
+    let (placed, marks, len) = first_call(rt, &mut settings, received, pts, sync);
     let refused = matches!(wanted, Placed::TimeRange | Placed::Counts);
     let as_before = !refused || settings == before;
-    Ok(placed == wanted && len == 0 && as_before && are_marks_behind(&marks, received, wanted))
+    placed == wanted && len == 0 && as_before && are_marks_behind(&marks, received, wanted)
 }
 
 #[test]
-fn answers_to_a_first_frame(rt: HostRuntime) -> Result<(), Fail> {
+fn answers_to_a_first_frame(rt: HostRuntime) {
     for (i, frame) in FIRST_FRAMES.iter().enumerate() {
-        expect(&rt, frame.0, i, is_answered(&rt, frame)?);
+        expect(&rt, frame.0, i, is_answered(&rt, frame));
     }
-    Ok(())
 }
 
 #[test]
-fn begins_at_the_group_start(rt: HostRuntime) -> Result<(), Fail> {
+fn begins_at_the_group_start(rt: HostRuntime) {
     let mut sequence = segments();
     sequence.sequence = true;
     sequence.group_start = Ticks::new(100);
-    let (placed, marks, len) = first_call(&rt, &mut sequence, 0, 5, true)?;
-    assert!(rt; placed == Placed::Stored && len == 1);
-    assert!(rt; sequence.offset.get() == 95 && sequence.group_end.get() == 110);
-    assert!(rt; sequence.group_start == None);
-    assert!(rt; marks.last_decode == Ticks::new(100) && marks.highest_end == Ticks::new(110));
-    Ok(())
+    let (placed, marks, len) = first_call(&rt, &mut sequence, 0, 5, true);
+    let set = sequence.offset.get() == 95 && sequence.group_end.get() == 110;
+    let decoded = marks.last_decode == Ticks::new(100);
+    let ends = marks.highest_end == Ticks::new(110);
+    let stored = placed == Placed::Stored && len == 1 && sequence.group_start == None;
+    assert!(rt; set && decoded && ends && stored);
 }
 
 /// Only the track of the frame is asked to be sound.
 #[test]
-fn places_beside_a_track_that_is_not_sound(rt: HostRuntime) -> Result<(), Fail> {
-    let mut tracks = beside_unsound::<ListStore>(rt.alloc())?;
+fn places_beside_a_track_that_is_not_sound(rt: HostRuntime) {
+    let mut tracks = beside_unsound::<ListStore>(&rt);
     let mut settings = segments();
-    reserve_at(&mut tracks, 0)?;
+    reserve_at(&rt, &mut tracks, 0);
     let frame = frame_of(&rt, 1000, &(0, 100, 0, true));
-    assert!(rt; place(&mut tracks, &mut settings, 0, frame) == Placed::Stored);
-    let other = tracks.get(1).ok_or("no track")?.marks;
-    assert!(rt; !other.need_sync && other.received == 0);
-    Ok(())
+    let placed = place(&mut tracks, &mut settings, 0, frame);
+    let other = track_at(&rt, &tracks, 1).marks;
+    assert!(rt; placed == Placed::Stored && !other.need_sync && other.received == 0);
 }

@@ -1,13 +1,11 @@
 //! Worked examples of coded frame removal, on a plain store. Times are in milliseconds, and a
 //! frame lasts 100.
 
-use super::frames::{Sample, When, add_track, frame_of, has_frames, moment, time};
+use super::frames::{Sample, When, add_track, frame_at, has_frames, moment, time};
 use super::rows::expect;
 use mse_base::{Kind, Moment, Ticks};
 use range_removal::remove_frames;
-use std::alloc::Global;
 use std::process::Abort;
-use std::test::Fail;
 use track_store::{FrameStore, ListStore, Marks, Track, Tracks};
 
 /// The marks of a track that has stored its last frame.
@@ -37,40 +35,42 @@ type Case = (
 );
 
 /// Whether a removal left what is wanted of a track.
-fn is_left<S: FrameStore>(tracks: &Tracks<S>, place: usize, left: &Left) -> Result<bool, Fail> {
+fn is_left<S: FrameStore>(rt: &impl Abort, track: &Track<S>, left: &Left) -> bool {
     let (frames, kept) = *left;
-    let track = tracks.get(place).ok_or("no track")?;
     let unset = track.marks == track.marks.unset_marks();
-    let same_marks = unset != kept && track.marks.need_sync != kept;
-    Ok(same_marks && has_frames(tracks, place, frames)?)
+    unset != kept && track.marks.need_sync != kept && has_frames(rt, &track.store, frames)
+}
+
+/// Whether a removal left what is wanted of each track.
+fn are_left<S: FrameStore>(rt: &impl Abort, tracks: &Tracks<S>, left: &[Left]) -> bool {
+    for (place, wanted) in left.iter().enumerate() {
+        match tracks.get(place) {
+            Some(track) if is_left(rt, track, wanted) => {}
+            _ => return false,
+        }
+    }
+    tracks.len() == left.len()
 }
 
 /// Whether a removal leaves what is wanted.
-fn leaves(alloc: Global, case: &Case) -> Result<bool, Fail> {
+fn leaves(rt: &(impl Abort + AllocGlobal), case: &Case) -> bool {
     let (_, lists, start, end, duration, left) = *case;
-    let mut tracks = Tracks::<ListStore>::new(alloc);
+    let mut tracks = Tracks::<ListStore>::new(rt.alloc());
     for samples in lists {
-        add_track(
-            &mut tracks,
-            alloc,
-            Kind::Video,
-            samples,
-            marks_with(samples.len()),
-        )?;
+        let marks = marks_with(samples.len());
+        add_track(rt, &mut tracks, Kind::Video, samples, marks);
     }
-    remove_frames(&mut tracks, time(start)?, moment(end)?, moment(duration)?);
-    for (place, wanted) in left.iter().enumerate() {
-        if !is_left(&tracks, place, wanted)? {
-            return Ok(false);
-        }
-    }
-    Ok(tracks.len() == left.len())
+    let start = time(rt, start);
+    let end = moment(rt, end);
+    let duration = moment(rt, duration);
+    remove_frames(&mut tracks, start, end, duration);
+    are_left(rt, &tracks, left)
 }
 
 /// One frame out of presentation order: I0 P3 B1 B2.
 const REORDERED: &[Sample] = &[(0, true), (300, false), (100, false), (200, false)];
 
-const CASES: [Case; 6] = [
+static CASES: [Case; 6] = [
     // The marks go with the last frame, be it removed directly or as a decoding dependency.
     (
         "removes_the_last_frame",
@@ -135,20 +135,20 @@ const CASES: [Case; 6] = [
 ];
 
 #[test]
-fn removes(rt: HostRuntime) -> Result<(), Fail> {
+fn removes(rt: HostRuntime) {
     for (i, case) in CASES.iter().enumerate() {
-        expect(&rt, case.0, i, leaves(rt.alloc(), case)?);
+        expect(&rt, case.0, i, leaves(&rt, case));
     }
-    Ok(())
 }
 
 /// A track that holds a frame of the greatest serial that there is.
-fn greatest_serial(alloc: Global) -> Result<Tracks<ListStore>, Fail> {
-    let mut store = ListStore::new(alloc, Ticks::zero());
-    store.reserve(1)?;
-    store.add(frame_of(alloc, u64::MAX, 100, true)?);
-    let mut tracks = Tracks::<ListStore>::new(alloc);
-    tracks.reserve(1)?;
+fn greatest_serial(rt: &(impl Abort + AllocGlobal)) -> Tracks<ListStore> {
+    let mut store = ListStore::new(rt.alloc(), Ticks::zero());
+    store.reserve(1).expect(rt, "memory");
+    let begin = time(rt, 100);
+    store.add(frame_at(rt, u64::MAX, begin, begin, true, &[0; 4]));
+    let mut tracks = Tracks::<ListStore>::new(rt.alloc());
+    tracks.reserve(1).expect(rt, "memory");
     tracks.add(Track {
         id: 1,
         kind: Kind::Video,
@@ -156,26 +156,17 @@ fn greatest_serial(alloc: Global) -> Result<Tracks<ListStore>, Fail> {
         store,
         marks: marks_with(1),
     });
-    Ok(tracks)
+    tracks
 }
 
 /// A frame of the greatest serial goes like any other.
 #[test]
-fn removes_the_greatest_serial(rt: HostRuntime) -> Result<(), Fail> {
-    let mut tracks = greatest_serial(rt.alloc())?;
-    remove_frames(&mut tracks, time(50)?, moment(When::At(60))?, Moment::Nan);
-    expect(
-        &rt,
-        "before the frame",
-        0,
-        is_left(&tracks, 0, &(&[100], true))?,
-    );
-    remove_frames(&mut tracks, time(50)?, Moment::Infinite, Moment::Infinite);
-    expect(
-        &rt,
-        "over the frame",
-        0,
-        is_left(&tracks, 0, &(&[], false))?,
-    );
-    Ok(())
+fn removes_the_greatest_serial(rt: HostRuntime) {
+    let mut tracks = greatest_serial(&rt);
+    let start = time(&rt, 50);
+    remove_frames(&mut tracks, start, Moment::At(time(&rt, 60)), Moment::Nan);
+    let stays = are_left(&rt, &tracks, &[(&[100], true)]);
+    remove_frames(&mut tracks, start, Moment::Infinite, Moment::Infinite);
+    let goes = are_left(&rt, &tracks, &[(&[], false)]);
+    assert!(rt; stays && goes);
 }

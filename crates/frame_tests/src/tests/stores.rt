@@ -1,37 +1,11 @@
 //! Each call once, through its bound, at the plain store.
 
-ghost use Rattle.std.specs.Prelude.{◌≡◌, true, length, IfOk};
-ghost use Rattle.track_store.specs.Frames.{IsTimed};
-
-use super::rows::{Bounds, are, bounds_of, expect, ticks};
-use mse_base::{Bytes, CodedFrame, Kind, Moment, Ticks};
-use std::alloc::Global;
+use super::frames::frame_at;
+use super::rows::{Bounds, are, bounds_of, ticks};
+use mse_base::{Kind, Moment, Ticks};
 use std::process::Abort;
-use std::test::Fail;
 use track_store::calls::{StoreAnswer, StoreChange, StoreLook, change, look_up};
-use track_store::{FrameStore, ListStore, Marks, Stored, Track, Tracks};
-
-/// A random access point from 0 to 10, with four bytes.
-#[tactic(auto, unfolding(mse_base::specs::Time::tick))]
-fn first_frame(alloc: Global) -> Result<Stored, Fail>
-    ensures sync { IfOk result (λ f. f.frame.sync ≡ true) }
-    ensures timed { IfOk result (λ f. IsTimed f) }
-    ensures four_bytes { IfOk result (λ f. length f.frame.payload ≡ 4) }
-{
-    let dur = Ticks::new(10).ok_or("no time")?;
-    let payload = Bytes::copy_of(alloc, b"1234")?;
-    Ok(Stored {
-        serial: 0,
-        frame: CodedFrame {
-            track_id: 1,
-            pts: Ticks::zero(),
-            dts: Ticks::zero(),
-            dur,
-            sync: true,
-            payload,
-        },
-    })
-}
+use track_store::{FrameStore, ListStore, Marks, Track, Tracks};
 
 /// What a store tells of all its frames: how many they are and how many bytes they have, the highest
 /// start and the highest end, in ticks, and the last range.
@@ -41,12 +15,6 @@ type Told = (usize, u64, Option<i128>, Option<i128>, Option<Bounds>);
 const WITH_A_FRAME: Told = (1, 4, Some(0), Some(10), Some((0, 10)));
 
 const WITH_NONE: Told = (0, 0, None, None, None);
-
-/// Places, and the serial of the frame there.
-const SERIALS: [(usize, Option<u64>); 2] = [(0, Some(0)), (1, None)];
-
-/// Times in ticks, and the place of the frame that is overlapped there.
-const OVERLAPPED: [(i128, Option<usize>); 2] = [(0, Some(0)), (10, None)];
 
 fn number_of(t: Option<Ticks>) -> Option<i128> {
     match t {
@@ -81,42 +49,51 @@ fn serial_at<S: FrameStore>(store: &S, place: usize) -> Option<u64> {
     }
 }
 
-/// Asserts what a store tells that holds a random access point from 0 to 10, of four bytes.
-fn tells_a_frame<S: FrameStore>(rt: &impl Abort, store: &S) {
-    for (i, (place, wanted)) in SERIALS.iter().enumerate() {
-        expect(rt, "serials", i, serial_at(store, *place) == *wanted);
-    }
-    for (i, (t, wanted)) in OVERLAPPED.iter().enumerate() {
-        expect(
-            rt,
-            "overlapped",
-            i,
-            store.overlapped(ticks(rt, *t)) == *wanted,
-        );
-    }
-    let held = bounds_of(store.span_holding(ticks(rt, 10)));
-    let told = (told_of(store), syncs_of(rt, store), held);
-    let wanted = (WITH_A_FRAME, [Some(0), Some(0), None], Some((0, 10)));
-    expect(rt, "a frame", 0, told == wanted);
-    let ranges = store.copy_ranges().expect(rt, "memory");
-    expect(rt, "ranges", 0, are(&ranges, &[(0, 10)]));
+/// The serials of the frames at the first two places.
+fn serials_of<S: FrameStore>(store: &S) -> [Option<u64>; 2] {
+    [serial_at(store, 0), serial_at(store, 1)]
 }
 
-fn keeps_a_frame<S: FrameStore>(rt: &(impl Abort + AllocGlobal)) -> Result<(), Fail> {
+/// The places of the frames that are overlapped at 0 and at 10.
+fn overlapped_in<S: FrameStore>(rt: &impl Abort, store: &S) -> [Option<usize>; 2] {
+    [
+        store.overlapped(ticks(rt, 0)),
+        store.overlapped(ticks(rt, 10)),
+    ]
+}
+
+/// Whether all ranges are one from 0 to 10, which holds its end.
+fn has_range<S: FrameStore>(rt: &impl Abort, store: &S) -> bool {
+    let held = bounds_of(store.span_holding(ticks(rt, 10)));
+    let ranges = store.copy_ranges().expect(rt, "memory");
+    held == Some((0, 10)) && are(&ranges, &[(0, 10)])
+}
+
+/// Whether a store tells what it is to where it holds a random access point from 0 to 10, of four
+/// bytes.
+fn tells_a_frame<S: FrameStore>(rt: &impl Abort, store: &S) -> bool {
+    told_of(store) == WITH_A_FRAME
+        && syncs_of(rt, store) == [Some(0), Some(0), None]
+        && serials_of(store) == [Some(0), None]
+        && overlapped_in(rt, store) == [Some(0), None]
+        && has_range(rt, store)
+}
+
+fn keeps_a_frame<S: FrameStore>(rt: &(impl Abort + AllocGlobal)) {
     let mut store = S::new(rt.alloc(), Ticks::zero());
-    store.reserve(1)?;
-    store.add(first_frame(rt.alloc())?);
-    tells_a_frame(rt, &store);
+    store.reserve(1).expect(rt, "memory");
+    store.add(frame_at(rt, 0, Ticks::zero(), ticks(rt, 10), true, b"1234"));
+    let added = tells_a_frame(rt, &store);
     store.remove_where_time(Ticks::zero(), Moment::Infinite, 0);
-    tells_a_frame(rt, &store);
+    let kept = tells_a_frame(rt, &store);
     store.remove_where_time(Ticks::zero(), Moment::Infinite, 1);
-    expect(rt, "no frame", 0, told_of(&store) == WITH_NONE);
-    Ok(())
+    let removed = told_of(&store) == WITH_NONE;
+    assert!(rt; added && kept && removed);
 }
 
 #[test]
-fn keeps_a_frame_in_a_list(rt: HostRuntime) -> Result<(), Fail> {
-    keeps_a_frame::<ListStore>(&rt)
+fn keeps_a_frame_in_a_list(rt: HostRuntime) {
+    keeps_a_frame::<ListStore>(&rt);
 }
 
 /// Whether the first frame has the serial 0.
@@ -141,44 +118,58 @@ fn has_no_frame<S: FrameStore>(store: &S) -> bool {
     }
 }
 
-fn answers_calls<S: FrameStore>(rt: &(impl Abort + AllocGlobal)) -> Result<(), Fail> {
+fn answers_calls<S: FrameStore>(rt: &(impl Abort + AllocGlobal)) {
     let mut store = S::new(rt.alloc(), Ticks::zero());
-    change(&mut store, StoreChange::Reserve(1))?;
-    store.add(first_frame(rt.alloc())?);
-    expect(
-        rt,
-        "a frame",
-        0,
-        has_a_frame(&store) && has_one_range(&store),
-    );
+    change(&mut store, StoreChange::Reserve(1)).expect(rt, "memory");
+    store.add(frame_at(rt, 0, Ticks::zero(), ticks(rt, 10), true, b"1234"));
+    let held = has_a_frame(&store) && has_one_range(&store);
     let removal = StoreChange::RemoveWhereTime(Ticks::zero(), Moment::Infinite, 1);
-    change(&mut store, removal)?;
-    expect(rt, "no frame", 0, has_no_frame(&store));
-    Ok(())
+    change(&mut store, removal).expect(rt, "memory");
+    assert!(rt; held && has_no_frame(&store));
 }
 
 #[test]
-fn answers_calls_as_a_list(rt: HostRuntime) -> Result<(), Fail> {
-    answers_calls::<ListStore>(&rt)
+fn answers_calls_as_a_list(rt: HostRuntime) {
+    answers_calls::<ListStore>(&rt);
 }
 
-#[test]
-fn keeps_tracks(rt: HostRuntime) -> Result<(), Fail> {
-    let mut tracks = Tracks::new(rt.alloc());
-    tracks.reserve(1)?;
-    tracks.add(Track {
+/// A track of sound with no frames.
+fn audio<S: FrameStore>(rt: &impl AllocGlobal) -> Track<S> {
+    Track {
         id: 7,
         kind: Kind::Audio,
         codec: *b"mp4a",
-        store: ListStore::new(rt.alloc(), Ticks::zero()),
+        store: S::new(rt.alloc(), Ticks::zero()),
         marks: Marks::new(),
-    });
-    assert!(rt; tracks.len() == 1 && tracks.used() == 0);
-    if let Some(track) = tracks.get_mut(0) {
-        track.marks.received = 3;
     }
-    let track = tracks.get(0).ok_or("no track")?;
-    assert!(rt; track.marks.unset_marks() == track.marks);
-    assert!(rt; track.id == 7 && track.marks.received == 3 && tracks.get(1).is_none());
-    Ok(())
+}
+
+/// Sets how many frames the first track has received.
+fn set_received<S: FrameStore>(tracks: &mut Tracks<S>, received: u64) {
+    if let Some(track) = tracks.get_mut(0) {
+        track.marks.received = received;
+    }
+}
+
+/// Whether the one track has this number, has received so many frames and needs a random access
+/// point.
+fn has_track<S: FrameStore>(tracks: &Tracks<S>, id: u32, received: u64) -> bool {
+    match tracks.get(0) {
+        Some(track) => {
+            track.marks.unset_marks() == track.marks
+                && (track.id, track.marks.received) == (id, received)
+                && tracks.get(1).is_none()
+        }
+        None => false,
+    }
+}
+
+#[test]
+fn keeps_tracks(rt: HostRuntime) {
+    let mut tracks = Tracks::<ListStore>::new(rt.alloc());
+    tracks.reserve(1).expect(&rt, "memory");
+    tracks.add(audio(&rt));
+    let one = tracks.len() == 1 && tracks.used() == 0;
+    set_received(&mut tracks, 3);
+    assert!(rt; one && has_track(&tracks, 7, 3));
 }

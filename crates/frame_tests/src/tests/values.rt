@@ -12,7 +12,7 @@ use std::alloc::Global;
 use std::process::Abort;
 
 /// Media times, how many units a second has, and the ticks; none where they are out of range.
-const CONVERSIONS: [(i128, u32, Option<i128>); 6] = [
+static CONVERSIONS: [(i128, u32, Option<i128>); 6] = [
     (1000, 44_101, Some(3_199_927_439)),
     (-1, 44_101, Some(-3_199_928)),
     (-1, 90_000, Some(-1_568_000)),
@@ -43,7 +43,7 @@ fn converts(rt: HostRuntime) {
 }
 
 /// Numbers, and whether they are ticks.
-const NUMBERS: [(i128, bool); 4] = [
+static NUMBERS: [(i128, bool); 4] = [
     ((1 << 110) + 1, false),
     (1 << 110, true),
     (-(1 << 110), true),
@@ -113,7 +113,7 @@ const THREE: &[Bounds] = &[(0, 10), (20, 30), (40, 50)];
 
 const OTHERS: &[Bounds] = &[(5, 20), (30, 35), (45, 60)];
 
-const ROWS: [Row; 12] = [
+static ROWS: [Row; 12] = [
     (FOUR, 0, FOUR, Made::Bridged(-7), FOUR),
     (FOUR, 0, FOUR, Made::Bridged(0), FOUR),
     (
@@ -223,7 +223,7 @@ fn make(rt: &impl Abort, ranges: &mut Ranges, change: Change)
 }
 
 /// Changes, one behind the other, and the ranges then.
-const CHANGES: [(Change, &[Bounds]); 4] = [
+static CHANGES: [(Change, &[Bounds]); 4] = [
     (
         Change::AddFirst((0, 14_112_000_000)),
         &[(0, 14_112_000_000)],
@@ -275,28 +275,28 @@ fn holds_times(rt: HostRuntime) {
     assert!(rt; holds_end(&rt, &ranges, &first));
 }
 
-/// Spans of 5 ticks at each tenth tick up to 30,000, in no order: more than one block has room for.
-fn many_spans(rt: &(impl Abort + AllocGlobal)) -> Vec<Bounds> {
-    let mut spans = Vec::new(rt.alloc());
-    for i in 0..3000_usize {
-        let start = i * 1009 % 3000 * 10;
-        spans
-            .push((start as i128, (start + 5) as i128))
-            .expect(rt, "memory");
+/// Ranges of 5 ticks at each tenth tick up to 30,000, added in no order: more than one block has room
+/// for.
+fn many(rt: &(impl Abort + AllocGlobal)) -> Ranges
+    ensures { IsRanges (pos 0) result.spans }
+{
+    let mut ranges = Ranges::new(rt.alloc());
+    for i in 0..3000_u32 {
+        let start = i128::from(i * 1009 % 3000 * 10);
+        add(rt, &mut ranges, (start, start + 5));
     }
-    spans
+    ranges
 }
 
-/// Those, and spans that fill the first 1,400 gaps but for each second one.
-fn filling_spans(rt: &(impl Abort + AllocGlobal)) -> Vec<Bounds> {
-    let mut spans = many_spans(rt);
-    for i in 0..700_usize {
-        let start = i * 20 + 5;
-        spans
-            .push((start as i128, (start + 5) as i128))
-            .expect(rt, "memory");
+/// Fills the first 1,400 gaps between those but for each second one.
+fn fill(rt: &impl Abort, ranges: &mut Ranges)
+    requires { IsRanges (pos 0) ranges.old.spans }
+    ensures { IsRanges (pos 0) ranges.new.spans }
+{
+    for i in 0..700_u32 {
+        let start = i128::from(i * 20 + 5);
+        add(rt, ranges, (start, start + 5));
     }
-    spans
 }
 
 fn is_range_at(ranges: &Ranges, place: usize, wanted: &Span) -> bool {
@@ -326,25 +326,39 @@ fn are_at_multiples(
 
 #[test]
 fn holds_many(rt: HostRuntime) {
-    let ranges = ranges_of(&rt, Ticks::zero(), many_spans(&rt).as_slice());
-    let bridged = made_of(&rt, &ranges, Made::Bridged(5));
+    let ranges = many(&rt);
     let apart = ranges.len() == 3000 && are_at_multiples(&rt, &ranges, 3000, 10, 5);
+    let bridged = made_of(&rt, &ranges, Made::Bridged(5));
     assert!(rt; apart && are(&bridged, &[(0, 29_995)]));
+}
+
+/// How many ranges the union of ranges with a copy of them has.
+fn union_len(rt: &impl Abort, ranges: &Ranges) -> usize {
+    let copy = ranges.copy().expect(rt, "memory");
+    ranges.union(&copy).expect(rt, "memory").len()
+}
+
+/// How many ranges there are that ranges have in common with a copy of them.
+fn meet_len(rt: &impl Abort, ranges: &Ranges) -> usize {
+    let copy = ranges.copy().expect(rt, "memory");
+    ranges.meet(&copy).expect(rt, "memory").len()
 }
 
 #[test]
 fn fills_and_combines_many(rt: HostRuntime) {
-    let ranges = ranges_of(&rt, Ticks::zero(), filling_spans(&rt).as_slice());
-    let copy = ranges.copy().expect(&rt, "memory");
-    let union = ranges.union(&copy).expect(&rt, "memory");
-    let meet = ranges.meet(&copy).expect(&rt, "memory");
-    let lens = [ranges.len(), union.len(), meet.len()];
+    let mut ranges = many(&rt);
+    fill(&rt, &mut ranges);
+    let lens = [
+        ranges.len(),
+        union_len(&rt, &ranges),
+        meet_len(&rt, &ranges),
+    ];
     assert!(rt; lens == [2300; 3] && are_at_multiples(&rt, &ranges, 700, 20, 15));
 }
 
 #[test]
 fn carves_many(rt: HostRuntime) {
-    let mut ranges = ranges_of(&rt, Ticks::zero(), many_spans(&rt).as_slice());
+    let mut ranges = many(&rt);
     let len = ranges.len();
     carve(&rt, &mut ranges, (3, 29_991));
     assert!(rt; len == 3000 && are(&ranges, &[(0, 3), (29_991, 29_995)]));

@@ -5,7 +5,7 @@ use Rattle.frame_tests.proofs.tests.media.feed.Goals as goal
 pub place-requires : goal.place-requires
 place-requires g c = record {
   in_range = omega (arith, c.requires.in_range, c.reserve_at.ensures.len);
-  room = c.in_ok-reserve_at.ensures.spare;
+  room = c.reserve_at.ensures.spare;
   sound = rw c.reserve_at.ensures.states (sound_in _ c.args.index c.requires.sound_and_countable.sound);
   count = rw c.reserve_at.ensures.states (counted_in _ c.args.index c.requires.sound_and_countable.counted);
   small = rw c.reserve_at.ensures.states c.requires.sound_and_countable.small;

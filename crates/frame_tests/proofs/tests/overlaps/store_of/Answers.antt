@@ -1,4 +1,4 @@
-use Rattle.std.proofs.Common.{◌≡◌, ℕ, ◌+◌, ◌<◌, ◌≤◌, List, [], ◌∷◌, ◌++◌, length, arith}
+use Rattle.std.proofs.Common.{◌≡◌, ℕ, ◌+◌, ◌<◌, ◌≤◌, List, [], ◌∷◌, ◌++◌, length, arith, subst}
 use Rattle.std.specs.List.{AllByRecursion}
 use Rattle.std.proofs.lemmas.List.Sums.{sum_by_push}
 use Rattle.track_store.specs.declared.store.Stored.{Stored}
@@ -14,6 +14,9 @@ serials_below n m (f ∷ fs) le h = (let low = h.0 in omega arith, serials_below
 serials_push : (n : ℕ) (fs : List Stored) (x : Stored) → x.serial ≡ n → AllByRecursion (λ f. f.serial < n) fs → AllByRecursion (λ f. f.serial < n + 1) (fs ++ x ∷ [])
 serials_push n fs x e h = each-push (λ f. f.serial < n + 1) fs x (serials_below n (n + 1) fs (omega arith) h) (omega arith)
 
+serials_push_from : (m i : ℕ) (fs : List Stored) (x : Stored) → x.serial ≡ m + i → AllByRecursion (λ f. f.serial < m + i) fs → AllByRecursion (λ f. f.serial < m + (i + 1)) (fs ++ x ∷ [])
+serials_push_from m i fs x e h = subst (λ (k : ℕ). AllByRecursion (λ f. f.serial < k) (fs ++ x ∷ [])) (omega arith) (serials_push (m + i) fs x e h)
+
 empty_push : (fs : List Stored) (x : Stored) → bytes_of fs ≡ 0 → length x.frame.payload ≡ 0 → bytes_of (fs ++ x ∷ []) ≡ 0
 empty_push fs x none zero = let more = sum_by_push (λ (f : Stored). length f.frame.payload) fs x in omega arith
 
@@ -21,7 +24,7 @@ pub loop-i-preserved : goal.loop-i-preserved
 loop-i-preserved g c =
     let frames = g.S.FrameStore.frames c.loop-i.store in
     record {
-      below = rw c.add.ensures.frames (serials_push c.loop-i.i frames c.in_ok-frame.frame c.in_ok-frame.ensures.serial c.loop-i.invariant.below);
-      empty = rw c.add.ensures.frames (empty_push frames c.in_ok-frame.frame c.loop-i.invariant.empty c.in_ok-frame.ensures.empty);
+      below = rw c.add.ensures.frames (serials_push_from c.args.first c.loop-i.i frames c.frame_at-frame.result c.frame_at-frame.ensures.serial c.loop-i.invariant.below);
+      empty = rw c.add.ensures.frames (empty_push frames c.frame_at-frame.result c.loop-i.invariant.empty c.frame_at-frame.ensures.bytes);
       spare = omega (arith, c.add.ensures.spare, c.loop-i.invariant.spare);
     }

@@ -5,7 +5,7 @@ use Rattle.frame_tests.proofs.tests.overlaps.store_of.Given as goal
 
 abbrev pub invariant-loop-i : goal.invariant-loop-i
 invariant-loop-i g l = record {
-  below : AllByRecursion (λ f. f.serial < l.i) (g.S.FrameStore.frames l.store);
+  below : AllByRecursion (λ f. f.serial < l.first + l.i) (g.S.FrameStore.frames l.store);
   empty : bytes_of (g.S.FrameStore.frames l.store) ≡ 0;
   spare : length l.intervals ≤ g.S.FrameStore.spare l.store + l.i;
 }
