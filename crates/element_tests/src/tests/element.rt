@@ -4,9 +4,7 @@ use super::scenes::{SECOND, Told, scene_of, time};
 use element_seek::Scene;
 use media_element::Element;
 use mse_calls::{Changes, EndKind, Event, EventKind, Level, Name, Target};
-use std::alloc::Global;
 use std::process::Abort;
-use std::test::Fail;
 
 /// A call on an element with its answer, its turn, the end of a step, the events that wait, or what
 /// holds then. Times are in ticks.
@@ -40,15 +38,15 @@ enum Step {
 }
 
 /// An element whose metadata is there, at the level of a scene, all of whose events were fired.
-fn loaded_element(alloc: Global, scene: &Scene) -> Result<Element, Fail> {
-    let mut element = Element::new(alloc);
-    element.reserve(6)?;
+fn loaded_element(rt: &(impl Abort + AllocGlobal), scene: &Scene) -> Element {
+    let mut element = Element::new(rt.alloc());
+    element.reserve(6).expect(rt, "memory");
     element.load(scene);
     element.settle(scene);
     for _ in 0..6 {
         let _ = element.fire();
     }
-    Ok(element)
+    element
 }
 
 /// Whether the events that wait are these at the element; they are fired.
@@ -65,55 +63,56 @@ fn fires(element: &mut Element, wanted: &[EventKind]) -> bool {
 }
 
 /// Whether this holds of the element.
-fn holds(element: &Element, scene: &Scene, step: &Step) -> Result<bool, Fail> {
+fn holds(rt: &impl Abort, element: &Element, scene: &Scene, step: &Step) -> bool {
     match *step {
-        Step::Due(wanted) => Ok(element.due(scene) == wanted),
-        Step::Position(t) => Ok(element.position() == time(t)?),
-        Step::Level(wanted) => Ok(element.level() == wanted),
-        Step::Seeking(wanted) => Ok(element.seeking() == wanted),
-        Step::Paused(wanted) => Ok(element.paused() == wanted),
-        Step::Error(wanted) => Ok(element.error() == wanted),
-        _ => Ok(true),
+        Step::Due(wanted) => element.due(scene) == wanted,
+        Step::Position(t) => element.position() == time(rt, t),
+        Step::Level(wanted) => element.level() == wanted,
+        Step::Seeking(wanted) => element.seeking() == wanted,
+        Step::Paused(wanted) => element.paused() == wanted,
+        Step::Error(wanted) => element.error() == wanted,
+        _ => true,
     }
 }
 
 /// Takes a step; whether it answers what is wanted.
-fn does(alloc: Global, element: &mut Element, scene: &Scene, step: &Step) -> Result<bool, Fail> {
-    element.reserve(4)?;
+fn does(
+    rt: &(impl Abort + AllocGlobal),
+    element: &mut Element,
+    scene: &Scene,
+    step: &Step,
+) -> bool {
+    element.reserve(4).expect(rt, "memory");
     match *step {
-        Step::Loaded => *element = loaded_element(alloc, scene)?,
+        Step::Loaded => *element = loaded_element(rt, scene),
         Step::Load => element.load(scene),
-        Step::Seek(t) => element.seek(time(t)?, scene),
-        Step::Play(wanted) => return Ok(element.play(scene) == wanted),
+        Step::Seek(t) => element.seek(time(rt, t), scene),
+        Step::Play(wanted) => return element.play(scene) == wanted,
         Step::Pause => element.pause(),
-        Step::Advance(t, wanted) => return Ok(element.advance(time(t)?, scene) == wanted),
+        Step::Advance(t, wanted) => return element.advance(time(rt, t), scene) == wanted,
         Step::ChangeDuration => element.change_duration(scene.duration, scene),
         Step::Fail(kind) => element.fail(kind),
-        Step::Turn(wanted) => return Ok(element.turn(scene) == wanted),
+        Step::Turn(wanted) => return element.turn(scene) == wanted,
         Step::Settle => element.settle(scene),
-        Step::Fires(wanted) => return Ok(fires(element, wanted)),
-        _ => return holds(element, scene, step),
+        Step::Fires(wanted) => return fires(element, wanted),
+        _ => return holds(rt, element, scene, step),
     }
-    Ok(true)
+    true
 }
 
 /// A second of which nothing is buffered.
 const SHORT: Told = (Some(SECOND), false, None, Some((0, SECOND)));
 
 /// Takes the steps of a case, from a new element on.
-fn run(rt: &(impl Abort + AllocGlobal), case: &str, steps: &[Step]) -> Result<(), Fail> {
-    let mut scene = scene_of(&SHORT)?;
+fn run(rt: &(impl Abort + AllocGlobal), case: &str, steps: &[Step]) {
+    let mut scene = scene_of(rt, &SHORT);
     let mut element = Element::new(rt.alloc());
     for (i, step) in steps.iter().enumerate() {
         if let Step::Scene(told) = step {
-            scene = scene_of(told)?;
+            scene = scene_of(rt, told);
         }
-        assert!(rt;
-            does(rt.alloc(), &mut element, &scene, step)?,
-            "{case}, step {i}"
-        );
+        assert!(rt; does(rt, &mut element, &scene, step), "{case}, step {i}");
     }
-    Ok(())
 }
 
 /// Of ten seconds the first six are buffered, the first two, none, and the two from four on.
@@ -140,7 +139,7 @@ const TWO_LATER: Told = (
     Some((0, 10 * SECOND)),
 );
 
-const CASES: [(&str, &[Step]); 6] = [
+static CASES: [(&str, &[Step]); 6] = [
     // An element without metadata is told of a change of the duration, and does not seek.
     (
         "duration_of_an_element_without_metadata",
@@ -289,11 +288,10 @@ const CASES: [(&str, &[Step]); 6] = [
 ];
 
 #[test]
-fn elements(rt: HostRuntime) -> Result<(), Fail> {
+fn elements(rt: HostRuntime) {
     for (case, steps) in &CASES {
-        run(&rt, case, steps)?;
+        run(&rt, case, steps);
     }
-    Ok(())
 }
 
 /// Whether these events are fired next, in this order.
@@ -307,10 +305,10 @@ fn fires_each(element: &mut Element, wanted: &[Event]) -> bool {
 
 /// Events are fired in the order in which they were queued, at whatever target.
 #[test]
-fn fires_in_order(rt: HostRuntime) -> Result<(), Fail> {
+fn fires_in_order(rt: HostRuntime) {
     let mut element = Element::new(rt.alloc());
-    assert!(rt; element.fire().is_none(), "before all");
-    element.reserve(8)?;
+    let none_before = element.fire().is_none();
+    element.reserve(8).expect(&rt, "memory");
     let opened = Event {
         target: Target::Source,
         kind: EventKind::SourceOpen,
@@ -326,16 +324,12 @@ fn fires_in_order(rt: HostRuntime) -> Result<(), Fail> {
     kinds.push(EventKind::Update);
     kinds.push(EventKind::UpdateEnd);
     element.tell_kinds(Target::Buffer(3), &kinds);
-    assert!(rt;
-        fires_each(&mut element, &[opened, changed, changed]),
-        "the first three"
-    );
-    assert!(rt; fires_each(&mut element, &UPDATES), "the last two");
-    assert!(rt; element.fire().is_none(), "behind all");
-    Ok(())
+    let first = fires_each(&mut element, &[opened, changed, changed]);
+    let last = fires_each(&mut element, &UPDATES);
+    assert!(rt; none_before && first && last && element.fire().is_none());
 }
 
-const UPDATES: [Event; 2] = [
+static UPDATES: [Event; 2] = [
     Event {
         target: Target::Buffer(3),
         kind: EventKind::Update,

@@ -1,28 +1,30 @@
 //! How ready an element is, and the events of each change.
 
+use super::scenes::time;
 use element_ready::{Facts, events_of_change, is_first_data, level};
 use mse_base::{Moment, Span, Ticks};
 use mse_calls::{EventKind, Level};
-use std::test::Fail;
+use std::process::Abort;
 
 /// Three seconds in ticks.
 const LONG: i128 = 423_360_000_000;
 
-fn time(t: i128) -> Result<Ticks, Fail> {
-    Ok(Ticks::new(t).ok_or("no time")?)
-}
+/// A position, the end of the range from 0 on, the duration, and the level there.
+type Border = (i128, i128, i128, Level);
 
-/// The level at a position, by the end of the range from 0 on and the duration.
-fn at(position: i128, end: i128, duration: i128) -> Result<Level, Fail> {
+/// Whether the level at a border is what is wanted.
+fn is_told(rt: &impl Abort, border: &Border) -> bool {
+    let (position, end, duration, wanted) = *border;
     let span = Span {
         start: Ticks::zero(),
-        end: time(end)?,
+        end: time(rt, end),
     };
-    Ok(level(Some(span), time(position)?, Moment::At(time(duration)?)))
+    let duration = Moment::At(time(rt, duration));
+    level(Some(span), time(rt, position), duration) == wanted
 }
 
-/// The borders between the levels: a position, the end of the range from 0 on, and the duration.
-const BORDERS: [(i128, i128, i128, Level); 9] = [
+/// The borders between the levels.
+static BORDERS: [Border; 9] = [
     (0, LONG, 10 * LONG, Level::Enough),
     (0, LONG - 1, 10 * LONG, Level::Future),
     (1, LONG, 10 * LONG, Level::Future),
@@ -35,14 +37,12 @@ const BORDERS: [(i128, i128, i128, Level); 9] = [
 ];
 
 #[test]
-fn tells_levels(rt: HostRuntime) -> Result<(), Fail> {
+fn tells_levels(rt: HostRuntime) {
     let without = level(None, Ticks::zero(), Moment::Infinite);
     assert!(rt; without == Level::Metadata, "without a range");
-    for (position, end, duration, wanted) in &BORDERS {
-        let found = at(*position, *end, *duration)?;
-        assert!(rt; found == *wanted, "at {position} up to {end} of {duration}");
+    for (i, border) in BORDERS.iter().enumerate() {
+        assert!(rt; is_told(&rt, border), "border {i}");
     }
-    Ok(())
 }
 
 /// One letter for each event.
@@ -59,7 +59,7 @@ fn letter(kind: EventKind) -> char {
     }
 }
 
-const LEVELS: [Level; 5] = [
+static LEVELS: [Level; 5] = [
     Level::Nothing,
     Level::Metadata,
     Level::Current,
@@ -94,7 +94,7 @@ fn fires_row(old: Level, facts: Facts, row: &[&str; 5]) -> bool {
 type Table = (Facts, &'static [[&'static str; 5]; 5]);
 
 /// An element that plays, one that is paused, and one that is at the end.
-const TABLES: [Table; 3] = [
+static TABLES: [Table; 3] = [
     (
         Facts {
             playing: true,
@@ -146,9 +146,6 @@ fn fires_events_of_changes(rt: HostRuntime) {
             assert!(rt; fires_row(*old, *facts, row), "{facts:?} from level {i}");
         }
     }
-    assert!(rt;
-        is_first_data(Level::Metadata, Level::Enough),
-        "after metadata"
-    );
-    assert!(rt; !is_first_data(Level::Current, Level::Enough), "after data");
+    let is_first = is_first_data(Level::Metadata, Level::Enough);
+    assert!(rt; is_first && !is_first_data(Level::Current, Level::Enough));
 }

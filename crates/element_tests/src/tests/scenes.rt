@@ -2,7 +2,7 @@
 
 use element_seek::Scene;
 use mse_base::{Moment, Span, Ticks};
-use std::test::Fail;
+use std::process::Abort;
 
 /// Ticks in a second.
 pub(super) const SECOND: i128 = 141_120_000_000;
@@ -14,33 +14,33 @@ type Interval = (i128, i128);
 /// position; and what can be sought.
 pub(super) type Told = (Option<i128>, bool, Option<Interval>, Option<Interval>);
 
-pub(super) fn time(t: i128) -> Result<Ticks, Fail> {
-    Ok(Ticks::new(t).ok_or("no time")?)
+pub(super) fn time(rt: &impl Abort, t: i128) -> Ticks {
+    Ticks::new(t).expect(rt, "ticks in range")
 }
 
-fn span_of(interval: Option<Interval>) -> Result<Option<Span>, Fail> {
+fn span_of(rt: &impl Abort, interval: Option<Interval>) -> Option<Span> {
     match interval {
-        Some((start, end)) => Ok(Some(Span {
-            start: time(start)?,
-            end: time(end)?,
-        })),
-        None => Ok(None),
+        Some((start, end)) => Some(Span {
+            start: time(rt, start),
+            end: time(rt, end),
+        }),
+        None => None,
     }
 }
 
-fn moment_of(t: Option<i128>) -> Result<Moment, Fail> {
+fn moment_of(rt: &impl Abort, t: Option<i128>) -> Moment {
     match t {
-        Some(t) => Ok(Moment::At(time(t)?)),
-        None => Ok(Moment::Infinite),
+        Some(t) => Moment::At(time(rt, t)),
+        None => Moment::Infinite,
     }
 }
 
-pub(super) fn scene_of(told: &Told) -> Result<Scene, Fail> {
+pub(super) fn scene_of(rt: &impl Abort, told: &Told) -> Scene {
     let (duration, ended, span, seekable) = *told;
-    Ok(Scene {
-        duration: moment_of(duration)?,
+    Scene {
+        duration: moment_of(rt, duration),
         ended,
-        span: span_of(span)?,
-        seekable: span_of(seekable)?,
-    })
+        span: span_of(rt, span),
+        seekable: span_of(rt, seekable),
+    }
 }

@@ -4,7 +4,6 @@ use super::scenes::{SECOND, Told, scene_of, time};
 use element_seek::{Player, PlayerAnswer, Scene};
 use mse_calls::{Changes, EndKind, EventKind, Level, Name};
 use std::process::Abort;
-use std::test::Fail;
 
 /// A call on the element and the events that it tells, its turn, the end of a step, or what holds
 /// then. Times are in ticks.
@@ -76,51 +75,51 @@ fn is_turn(turn: Option<Changes>, wanted: &[EventKind]) -> bool {
 }
 
 /// Whether this holds of the element.
-fn holds(player: &Player, scene: &Scene, step: &Step) -> Result<bool, Fail> {
+fn holds(rt: &impl Abort, player: &Player, scene: &Scene, step: &Step) -> bool {
     match *step {
-        Step::Position(t) => Ok(player.position() == time(t)?),
-        Step::Seeking(wanted) => Ok(player.seeking() == wanted),
-        Step::Level(wanted) => Ok(player.level() == wanted),
-        Step::Paused(wanted) => Ok(player.paused() == wanted),
-        Step::Due(wanted) => Ok(player.due(scene) == wanted),
-        Step::Error(wanted) => Ok(player.error() == wanted),
-        _ => Ok(true),
+        Step::Position(t) => player.position() == time(rt, t),
+        Step::Seeking(wanted) => player.seeking() == wanted,
+        Step::Level(wanted) => player.level() == wanted,
+        Step::Paused(wanted) => player.paused() == wanted,
+        Step::Due(wanted) => player.due(scene) == wanted,
+        Step::Error(wanted) => player.error() == wanted,
+        _ => true,
     }
 }
 
 /// Takes a step of the element itself; whether it tells what is wanted.
-fn settles(player: &mut Player, scene: &Scene, step: &Step) -> Result<bool, Fail> {
+fn settles(rt: &impl Abort, player: &mut Player, scene: &Scene, step: &Step) -> bool {
     match *step {
-        Step::NoTurn => Ok(player.turn(scene).is_none()),
-        Step::Turn(wanted) => Ok(is_turn(player.turn(scene), wanted)),
-        Step::AnyTurn => Ok(player.turn(scene).is_some()),
-        Step::Settle(wanted) => Ok(are_events(&player.settle(scene), wanted)),
+        Step::NoTurn => player.turn(scene).is_none(),
+        Step::Turn(wanted) => is_turn(player.turn(scene), wanted),
+        Step::AnyTurn => player.turn(scene).is_some(),
+        Step::Settle(wanted) => are_events(&player.settle(scene), wanted),
         Step::AnySettle => {
             let _ = player.settle(scene);
-            Ok(true)
+            true
         }
-        _ => holds(player, scene, step),
+        _ => holds(rt, player, scene, step),
     }
 }
 
 /// Takes a step; whether it tells what is wanted.
-fn does(player: &mut Player, scene: &Scene, step: &Step) -> Result<bool, Fail> {
+fn does(rt: &impl Abort, player: &mut Player, scene: &Scene, step: &Step) -> bool {
     match *step {
         Step::New => *player = Player::new(),
         Step::Loaded => *player = loaded_player(scene),
-        Step::Load(wanted) => return Ok(are_events(&player.load(scene), wanted)),
-        Step::Seek(t, wanted) => return Ok(are_events(&player.seek(time(t)?, scene), wanted)),
-        Step::Play(wanted) => return Ok(is_told(player.play(scene), wanted)),
-        Step::PlayRefused(wanted) => return Ok(is_refused_with(player.play(scene), wanted)),
-        Step::Pause(wanted) => return Ok(are_events(&player.pause(), wanted)),
-        Step::Advance(t, wanted) => return Ok(is_told(player.advance(time(t)?, scene), wanted)),
+        Step::Load(wanted) => return are_events(&player.load(scene), wanted),
+        Step::Seek(t, wanted) => return are_events(&player.seek(time(rt, t), scene), wanted),
+        Step::Play(wanted) => return is_told(player.play(scene), wanted),
+        Step::PlayRefused(wanted) => return is_refused_with(player.play(scene), wanted),
+        Step::Pause(wanted) => return are_events(&player.pause(), wanted),
+        Step::Advance(t, wanted) => return is_told(player.advance(time(rt, t), scene), wanted),
         Step::AdvanceRefused(t, wanted) => {
-            return Ok(is_refused_with(player.advance(time(t)?, scene), wanted));
+            return is_refused_with(player.advance(time(rt, t), scene), wanted);
         }
-        Step::Fail(kind, wanted) => return Ok(are_events(&player.fail(kind), wanted)),
-        _ => return settles(player, scene, step),
+        Step::Fail(kind, wanted) => return are_events(&player.fail(kind), wanted),
+        _ => return settles(rt, player, scene, step),
     }
-    Ok(true)
+    true
 }
 
 /// Ten seconds, of which the first is buffered.
@@ -143,19 +142,18 @@ const FOUR: Told = (
 );
 
 /// Takes the steps of a case.
-fn run(rt: &impl Abort, case: &str, steps: &[Step]) -> Result<(), Fail> {
-    let mut scene = scene_of(&TEN)?;
+fn run(rt: &impl Abort, case: &str, steps: &[Step]) {
+    let mut scene = scene_of(rt, &TEN);
     let mut player = Player::new();
     for (i, step) in steps.iter().enumerate() {
         if let Step::Scene(told) = step {
-            scene = scene_of(told)?;
+            scene = scene_of(rt, told);
         }
-        assert!(rt; does(&mut player, &scene, step)?, "{case}, step {i}");
+        assert!(rt; does(rt, &mut player, &scene, step), "{case}, step {i}");
     }
-    Ok(())
 }
 
-const CASES: [(&str, &[Step]); 7] = [
+static CASES: [(&str, &[Step]); 7] = [
     // A seek before there is metadata sets where playback starts; where nothing can be sought once
     // the metadata is there, it starts at 0.
     (
@@ -310,9 +308,8 @@ const CASES: [(&str, &[Step]); 7] = [
 ];
 
 #[test]
-fn positions(rt: HostRuntime) -> Result<(), Fail> {
+fn positions(rt: HostRuntime) {
     for (case, steps) in &CASES {
-        run(&rt, case, steps)?;
+        run(&rt, case, steps);
     }
-    Ok(())
 }
