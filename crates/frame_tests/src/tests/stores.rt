@@ -96,25 +96,16 @@ fn keeps_a_frame_in_a_list(rt: HostRuntime) {
     keeps_a_frame::<ListStore>(&rt);
 }
 
-/// Whether the first frame has the serial 0.
-fn has_a_frame<S: FrameStore>(store: &S) -> bool {
-    match look_up(store, &StoreLook::Get(0)) {
-        StoreAnswer::Frame(Some(stored)) => stored.serial == 0,
-        _ => false,
-    }
-}
+/// The serial of the frame, how many ranges or how many frames there are, whichever is answered.
+type Answered = (Option<u64>, Option<usize>, Option<usize>);
 
-fn has_one_range<S: FrameStore>(store: &S) -> bool {
-    match look_up(store, &StoreLook::CopyRanges) {
-        StoreAnswer::Ranges(Ok(ranges)) => ranges.len() == 1,
-        _ => false,
-    }
-}
-
-fn has_no_frame<S: FrameStore>(store: &S) -> bool {
-    match look_up(store, &StoreLook::Len) {
-        StoreAnswer::Frames(count) => count == 0,
-        _ => false,
+/// What a store answers to a call.
+fn answer_of<S: FrameStore>(store: &S, look: &StoreLook) -> Answered {
+    match look_up(store, look) {
+        StoreAnswer::Frame(Some(stored)) => (Some(stored.serial), None, None),
+        StoreAnswer::Ranges(Ok(ranges)) => (None, Some(ranges.len()), None),
+        StoreAnswer::Frames(count) => (None, None, Some(count)),
+        _ => (None, None, None),
     }
 }
 
@@ -122,10 +113,12 @@ fn answers_calls<S: FrameStore>(rt: &(impl Abort + AllocGlobal)) {
     let mut store = S::new(rt.alloc(), Ticks::zero());
     change(&mut store, StoreChange::Reserve(1)).expect(rt, "memory");
     store.add(frame_at(rt, 0, Ticks::zero(), ticks(rt, 10), true, b"1234"));
-    let held = has_a_frame(&store) && has_one_range(&store);
+    let frame = answer_of(&store, &StoreLook::Get(0)) == (Some(0), None, None);
+    let range = answer_of(&store, &StoreLook::CopyRanges) == (None, Some(1), None);
     let removal = StoreChange::RemoveWhereTime(Ticks::zero(), Moment::Infinite, 1);
     change(&mut store, removal).expect(rt, "memory");
-    assert!(rt; held && has_no_frame(&store));
+    let none = answer_of(&store, &StoreLook::Len) == (None, None, Some(0));
+    assert!(rt; frame && range && none);
 }
 
 #[test]

@@ -3,7 +3,7 @@
 ghost use Rattle.std.specs.Prelude.{◌≤ℤ◌, pos};
 ghost use Rattle.mse_base.specs.Bridging.{IsRanges};
 
-use super::rows::{Bounds, are, expect, not_negative, span, ticks};
+use super::rows::{Bounds, are, bounds_of, expect, not_negative, span, ticks};
 use mse_base::{
     Bytes, Kind, Moment, OutOfMemory, Presentation, Ranges, Span, Text, Ticks, TrackInfo,
     TrackList, convert,
@@ -239,10 +239,18 @@ static CHANGES: [(Change, &[Bounds]); 4] = [
     (Change::Clear, &[]),
 ];
 
-/// Whether these are all ranges, and the last of them is told.
+/// Whether these are all ranges, the last of them is told, and each holds its end.
 fn are_told(rt: &impl Abort, ranges: &Ranges, wanted: &[Bounds]) -> bool {
-    let last = wanted.last().map(|bounds| span(rt, *bounds));
-    ranges.is_empty() == wanted.is_empty() && ranges.last() == last && are(ranges, wanted)
+    let mut last = None;
+    for bounds in wanted {
+        if !holds_end(rt, ranges, &span(rt, *bounds)) {
+            return false;
+        }
+        last = Some(*bounds);
+    }
+    ranges.is_empty() == wanted.is_empty()
+        && bounds_of(ranges.last()) == last
+        && are(ranges, wanted)
 }
 
 /// Whether a range holds its end, and no range the tick behind it.
@@ -265,14 +273,6 @@ fn adds_and_carves(rt: HostRuntime) {
         make(&rt, &mut ranges, *change);
         expect(&rt, "a change", i, are_told(&rt, &ranges, wanted));
     }
-}
-
-#[test]
-fn holds_times(rt: HostRuntime) {
-    let two = [(0, 14_112_000_000), (42_336_000_000, 84_672_000_000)];
-    let ranges = ranges_of(&rt, Ticks::zero(), &two);
-    let first = span(&rt, (0, 14_112_000_000));
-    assert!(rt; holds_end(&rt, &ranges, &first));
 }
 
 /// Ranges of 5 ticks at each tenth tick up to 30,000, added in no order: more than one block has room
@@ -332,28 +332,21 @@ fn holds_many(rt: HostRuntime) {
     assert!(rt; apart && are(&bridged, &[(0, 29_995)]));
 }
 
-/// How many ranges the union of ranges with a copy of them has.
-fn union_len(rt: &impl Abort, ranges: &Ranges) -> usize {
+/// How many ranges the union of ranges with a copy of them has, and how many there are that both
+/// have in common.
+fn lens_with_copy(rt: &impl Abort, ranges: &Ranges) -> (usize, usize) {
     let copy = ranges.copy().expect(rt, "memory");
-    ranges.union(&copy).expect(rt, "memory").len()
-}
-
-/// How many ranges there are that ranges have in common with a copy of them.
-fn meet_len(rt: &impl Abort, ranges: &Ranges) -> usize {
-    let copy = ranges.copy().expect(rt, "memory");
-    ranges.meet(&copy).expect(rt, "memory").len()
+    let union = ranges.union(&copy).expect(rt, "memory").len();
+    let meet = ranges.meet(&copy).expect(rt, "memory").len();
+    (union, meet)
 }
 
 #[test]
 fn fills_and_combines_many(rt: HostRuntime) {
     let mut ranges = many(&rt);
     fill(&rt, &mut ranges);
-    let lens = [
-        ranges.len(),
-        union_len(&rt, &ranges),
-        meet_len(&rt, &ranges),
-    ];
-    assert!(rt; lens == [2300; 3] && are_at_multiples(&rt, &ranges, 700, 20, 15));
+    let lens = (ranges.len(), lens_with_copy(&rt, &ranges));
+    assert!(rt; lens == (2300, (2300, 2300)) && are_at_multiples(&rt, &ranges, 700, 20, 15));
 }
 
 #[test]
