@@ -75,12 +75,17 @@ fn call_of(alloc: Global, asked: Asked) -> Result<Call, OutOfMemory> {
     }
 }
 
-/// A listener by rules that makes these calls when the source opens.
-fn answering(alloc: Global, asked: &[Asked]) -> Result<Box<RuleListener>, OutOfMemory> {
+fn calls_of(alloc: Global, asked: &[Asked]) -> Result<Vec<Call>, OutOfMemory> {
     let mut calls = Vec::new(alloc);
     for call in asked {
         calls.push(call_of(alloc, *call)?)?;
     }
+    Ok(calls)
+}
+
+/// A listener by rules that makes these calls when the source opens.
+fn answering(alloc: Global, asked: &[Asked]) -> Result<Box<RuleListener>, OutOfMemory> {
+    let calls = calls_of(alloc, asked)?;
     let rule = Rule {
         listener: 0,
         on: OPEN,
@@ -211,23 +216,28 @@ fn make(scene: &mut DispatchScene, call: Call) -> Result<(), OutOfMemory> {
     Ok(())
 }
 
+/// Gives a new scene its blob, and opens its source.
+fn open(alloc: Global, scene: &mut DispatchScene) -> Result<(), OutOfMemory> {
+    scene.blobs.push(Bytes::copy_of(alloc, &FREE)?)?;
+    make(scene, Call::Attach)?;
+    // the place of the event that is fired next
+    scene.journal.reserve(1)?;
+    Ok(())
+}
+
 /// An opened source, whose first event waits, and one blob.
 fn opened_scene(
     alloc: Global,
     listeners: Vec<Box<dyn Listener>>,
 ) -> Result<DispatchScene, OutOfMemory> {
-    let mut blobs = Blobs::new(alloc);
-    blobs.push(Bytes::copy_of(alloc, &FREE)?)?;
     let mut scene = DispatchScene {
         engine: Engine::new(alloc, 1 << 40, Ticks::zero()),
-        blobs,
+        blobs: Blobs::new(alloc),
         listeners,
         left: LIMIT,
         journal: Journal::new(alloc),
     };
-    make(&mut scene, Call::Attach)?;
-    // the place of the event that is fired next
-    scene.journal.reserve(1)?;
+    open(alloc, &mut scene)?;
     Ok(scene)
 }
 
@@ -243,12 +253,18 @@ fn scene(alloc: Global) -> Result<DispatchScene, OutOfMemory> {
     }
 }
 
-fn replay_once(alloc: Global, count: usize) -> Result<DispatchScene, OutOfMemory> {
-    let mut scene = opened_scene(alloc, Vec::new(alloc))?;
+/// Fires the event that waits, and makes the first calls of the listeners, without any.
+fn make_first(alloc: Global, scene: &mut DispatchScene, count: usize) -> Result<(), OutOfMemory> {
     scene.engine.fire();
     for asked in CALLS.iter().take(count) {
-        make(&mut scene, call_of(alloc, *asked)?)?;
+        make(scene, call_of(alloc, *asked)?)?;
     }
+    Ok(())
+}
+
+fn replay_once(alloc: Global, count: usize) -> Result<DispatchScene, OutOfMemory> {
+    let mut scene = opened_scene(alloc, Vec::new(alloc))?;
+    make_first(alloc, &mut scene, count)?;
     Ok(scene)
 }
 
@@ -299,10 +315,16 @@ fn line_at(alloc: Global, journal: &Journal, i: usize) -> Result<Text, OutOfMemo
     }
 }
 
+/// Whether the entry of that number is printed as this line.
+fn is_line(alloc: Global, journal: &Journal, i: usize, wanted: &str) -> Result<bool, OutOfMemory> {
+    let line = line_at(alloc, journal, i)?;
+    Ok(line.as_str() == wanted)
+}
+
 /// Whether what was done is printed as the first lines, or as all.
 fn are_first_lines(alloc: Global, journal: &Journal) -> Result<bool, OutOfMemory> {
     for (i, wanted) in LINES.iter().take(journal.len()).enumerate() {
-        if line_at(alloc, journal, i)?.as_str() != *wanted {
+        if !is_line(alloc, journal, i, wanted)? {
             return Ok(false);
         }
     }
@@ -324,20 +346,34 @@ fn scene_text(alloc: Global, scene: &DispatchScene) -> Result<Text, OutOfMemory>
     }
 }
 
+/// Whether both engines show the same.
+fn show_the_same(
+    alloc: Global,
+    scene: &DispatchScene,
+    other: &DispatchScene,
+) -> Result<bool, OutOfMemory> {
+    let this = scene_text(alloc, scene)?;
+    let that = scene_text(alloc, other)?;
+    Ok(this.as_str() == that.as_str())
+}
+
+/// Whether the same events wait in both engines.
+fn fire_the_same(scene: &mut DispatchScene, other: &mut DispatchScene) -> bool {
+    for _ in 0..10 {
+        if scene.engine.fire() != other.engine.fire() {
+            return false;
+        }
+    }
+    true
+}
+
 /// Whether both engines show the same, and the same events wait in both.
 fn are_alike(
     alloc: Global,
     scene: &mut DispatchScene,
     other: &mut DispatchScene,
 ) -> Result<bool, OutOfMemory> {
-    let this = scene_text(alloc, scene)?;
-    let that = scene_text(alloc, other)?;
-    for _ in 0..10 {
-        if scene.engine.fire() != other.engine.fire() {
-            return Ok(false);
-        }
-    }
-    Ok(this.as_str() == that.as_str())
+    Ok(show_the_same(alloc, scene, other)? && fire_the_same(scene, other))
 }
 
 /// Whether a dispatch ended behind all calls, or for want of memory, and each call is counted that was made.
@@ -351,14 +387,35 @@ fn is_whole_or_cut(scene: &DispatchScene, ended: Result<(), DispatchFault>) -> b
     cut && scene.left.saturating_add(made) == LIMIT
 }
 
+/// Dispatches the event that waits, and tells whether what was done is a front part of all.
+fn does_a_front_part(alloc: Global, scene: &mut DispatchScene) -> Result<bool, Fail> {
+    let ended = fire(scene)?;
+    if !is_whole_or_cut(scene, ended) {
+        return Ok(false);
+    }
+    let are_first = are_first_lines(alloc, &scene.journal)?;
+    Ok(are_first)
+}
+
+/// Whether the engine is as the calls leave it that stand in the journal, behind the first call and the event.
+fn is_as_replayed(alloc: Global, scene: &mut DispatchScene) -> Result<bool, OutOfMemory> {
+    let mut other = replay(alloc, scene.journal.len().saturating_sub(2))?;
+    are_alike(alloc, scene, &mut other)
+}
+
+/// The scene is owned by the test alone, so that no step has to let it go.
+fn is_cut_well(alloc: Global, scene: &mut DispatchScene) -> Result<bool, Fail> {
+    if !does_a_front_part(alloc, scene)? {
+        return Ok(false);
+    }
+    let is_replayed = is_as_replayed(alloc, scene)?;
+    Ok(is_replayed)
+}
+
 #[test]
 fn cut_anywhere(rt: HostRuntime) -> Result<(), Fail> {
-    let alloc = rt.alloc();
-    let mut scene = scene(alloc)?;
-    let ended = fire(&mut scene)?;
-    assert!(rt; is_whole_or_cut(&scene, ended));
-    assert!(rt; are_first_lines(alloc, &scene.journal)?);
-    let mut other = replay(alloc, scene.journal.len().saturating_sub(2))?;
-    assert!(rt; are_alike(alloc, &mut scene, &mut other)?);
+    let mut scene = scene(rt.alloc())?;
+    let is_cut_well = is_cut_well(rt.alloc(), &mut scene)?;
+    assert!(rt; is_cut_well);
     Ok(())
 }

@@ -25,16 +25,12 @@ fn make(player: &mut Player, call: Call) -> Result<(), Fail> {
     Ok(())
 }
 
-/// A player whose media source is attached and has a source buffer.
-fn opened(alloc: Global) -> Result<Player, Fail> {
-    let mut blobs = Blobs::new(alloc);
-    blobs.push(Bytes::copy_of(alloc, &FRAMES)?)?;
-    let engine = Engine::new(alloc, 1_000_000, Ticks::zero());
-    let mut player = Player { engine, blobs };
-    make(&mut player, Call::Attach)?;
+/// Gives a new player its bytes, attaches its media source, and adds a source buffer.
+fn open(player: &mut Player, alloc: Global) -> Result<(), Fail> {
+    player.blobs.push(Bytes::copy_of(alloc, &FRAMES)?)?;
+    make(player, Call::Attach)?;
     let kind = Text::copy_of(alloc, "audio/aac")?;
-    make(&mut player, Call::AddSourceBuffer(kind))?;
-    Ok(player)
+    make(player, Call::AddSourceBuffer(kind))
 }
 
 /// Fires what waits, else works what runs, else lets the element take its turn. It answers the last event.
@@ -59,21 +55,41 @@ fn first_range(view: &View) -> Option<Span> {
     view.buffers.get(0)?.ranges.get(0)
 }
 
-#[test]
-fn of_the_library_page(rt: HostRuntime) -> Result<(), Fail> {
-    let mut player = opened(rt.alloc())?;
-    let ended = Event {
+/// Appends a part of the bytes, and does all that it makes to do. It answers the last event.
+fn append(player: &mut Player, start: u64, len: u64) -> Result<Option<Event>, Fail> {
+    let part = Some((start, len));
+    make(player, Call::AppendBuffer(0, Piece { blob: 0, part }))?;
+    drain(&mut player.engine)
+}
+
+/// The level of the element, and from where to where frames are buffered.
+fn shown(engine: &Engine<ListStore>) -> Result<(Level, Option<(i128, i128)>), Fail> {
+    let view = engine.view()?;
+    match first_range(&view) {
+        Some(range) => Ok((view.state.level, Some((range.start.get(), range.end.get())))),
+        None => Ok((view.state.level, None)),
+    }
+}
+
+fn play(rt: &(impl Abort + AllocGlobal), player: &mut Player) -> Result<(), Fail> {
+    open(player, rt.alloc())?;
+    let ended = Some(Event {
         target: Target::Buffer(0),
         kind: EventKind::UpdateEnd,
-    };
-    for part in [Some((0, 15)), Some((15, 5))] {
-        make(&mut player, Call::AppendBuffer(0, Piece { blob: 0, part }))?;
-        assert!(rt; drain(&mut player.engine)? == Some(ended));
+    });
+    for (start, len) in &[(0, 15), (15, 5)] {
+        assert!(rt; append(player, *start, *len)? == ended);
     }
-    let view = player.engine.view()?;
-    assert_eq!(rt; view.state.level, Level::Future);
-    let range = first_range(&view).ok_or("no range")?;
-    assert_eq!(rt; range.start.get(), 0);
-    assert_eq!(rt; range.end.get(), 2 * 1_024 * 2_940_000);
+    let two_frames = Some((0, 2 * 1_024 * 2_940_000));
+    assert!(rt; shown(&player.engine)? == (Level::Future, two_frames));
     Ok(())
+}
+
+#[test]
+fn of_the_library_page(rt: HostRuntime) -> Result<(), Fail> {
+    let mut player = Player {
+        engine: Engine::new(rt.alloc(), 1_000_000, Ticks::zero()),
+        blobs: Blobs::new(rt.alloc()),
+    };
+    play(&rt, &mut player)
 }

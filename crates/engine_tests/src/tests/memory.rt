@@ -7,7 +7,7 @@ use bmff_write::make as make_file;
 use call_script::{BlobText, Script, StepLine, read_script};
 use event_text::{closing, line_of};
 use mse_base::{Bytes, OutOfMemory, Text, Ticks};
-use mse_calls::{Answer, Blobs, Call, Entry};
+use mse_calls::{Answer, Blobs, Call, Entry, Event};
 use mse_engine::{Engine, EngineFault};
 use std::alloc::Global;
 use std::process::Abort;
@@ -149,7 +149,25 @@ fn player_text(alloc: Global, player: &Player) -> Result<Text, OutOfMemory> {
     }
 }
 
-/// Takes a step, and takes it again where it found no memory, after which the engine is to show what it showed before.
+fn shows(alloc: Global, player: &Player, wanted: &str) -> Result<bool, OutOfMemory> {
+    let text = player_text(alloc, player)?;
+    Ok(text.as_str() == wanted)
+}
+
+/// Takes a step again that found no memory, after which the engine is to show what it showed before.
+fn take_once_more(
+    rt: &impl Abort,
+    alloc: Global,
+    player: &mut Player,
+    step: MemoryCall,
+    before: &str,
+) -> Result<Option<Answer>, Fail> {
+    assert!(rt; shows(alloc, player, before)?);
+    let answer = take(player, step)?;
+    Ok(answer)
+}
+
+/// Takes a step, and takes it again where it found no memory.
 fn take_again(
     rt: &impl Abort,
     alloc: Global,
@@ -158,13 +176,20 @@ fn take_again(
 ) -> Result<Option<Answer>, Fail> {
     let before = player_text(alloc, player)?;
     match take(player, step) {
-        Ok(answer) => return Ok(answer),
-        Err(EngineFault::OutOfMemory) => {}
+        Ok(answer) => Ok(answer),
+        Err(EngineFault::OutOfMemory) => take_once_more(rt, alloc, player, step, before.as_str()),
     }
-    let after = player_text(alloc, player)?;
-    assert_eq!(rt; after.as_str(), before.as_str());
-    let answer = take(player, step)?;
-    Ok(answer)
+}
+
+/// Takes a step of the engine, which has no answer.
+fn take_step(
+    rt: &impl Abort,
+    alloc: Global,
+    player: &mut Player,
+    step: MemoryCall,
+) -> Result<(), Fail> {
+    take_again(rt, alloc, player, step)?;
+    Ok(())
 }
 
 fn put_once(alloc: Global, player: &mut Player, entry: &Entry) -> Result<(), OutOfMemory> {
@@ -187,15 +212,18 @@ fn copy(call: &Call) -> Result<Call, OutOfMemory> {
     }
 }
 
+fn put_event(alloc: Global, player: &mut Player, event: Event) -> Result<(), OutOfMemory> {
+    let entry = Entry::Fired(event);
+    put(alloc, player, &entry)
+}
+
 /// Fires the first event, if there is one.
 fn fire(alloc: Global, player: &mut Player) -> Result<bool, OutOfMemory> {
-    match player.engine.fire() {
-        Some(event) => {
-            put(alloc, player, &Entry::Fired(event))?;
-            Ok(true)
-        }
-        None => Ok(false),
-    }
+    let Some(event) = player.engine.fire() else {
+        return Ok(false);
+    };
+    put_event(alloc, player, event)?;
+    Ok(true)
 }
 
 /// Does what comes next in a drain; false where there is nothing left.
@@ -203,15 +231,15 @@ fn do_next(rt: &impl Abort, alloc: Global, player: &mut Player) -> Result<bool, 
     if fire(alloc, player)? {
         return Ok(true);
     }
-    if let Some(k) = player.engine.running() {
-        take_again(rt, alloc, player, MemoryCall::Work(k))?;
-        return Ok(true);
-    }
-    if player.engine.due() {
-        take_again(rt, alloc, player, MemoryCall::Turn)?;
-        return Ok(true);
-    }
-    Ok(false)
+    let step = if let Some(k) = player.engine.running() {
+        MemoryCall::Work(k)
+    } else if player.engine.due() {
+        MemoryCall::Turn
+    } else {
+        return Ok(false);
+    };
+    take_step(rt, alloc, player, step)?;
+    Ok(true)
 }
 
 fn drain(rt: &impl Abort, alloc: Global, player: &mut Player) -> Result<(), Fail> {
@@ -220,16 +248,27 @@ fn drain(rt: &impl Abort, alloc: Global, player: &mut Player) -> Result<(), Fail
             return Ok(());
         }
     }
-    Err("the drain does not end")?
+    Err(Fail::new("the drain does not end"))
+}
+
+fn put_answer(
+    alloc: Global,
+    player: &mut Player,
+    call: &Call,
+    answer: Answer,
+) -> Result<(), OutOfMemory> {
+    let entry = Entry::Script(copy(call)?, answer);
+    put(alloc, player, &entry)
 }
 
 fn make(rt: &impl Abort, alloc: Global, player: &mut Player, call: &Call) -> Result<(), Fail> {
-    let Some(answer) = take_again(rt, alloc, player, MemoryCall::Call(call))? else {
-        return Err("no answer")?;
-    };
-    let entry = Entry::Script(copy(call)?, answer);
-    put(alloc, player, &entry)?;
-    Ok(())
+    match take_again(rt, alloc, player, MemoryCall::Call(call))? {
+        Some(answer) => {
+            put_answer(alloc, player, call, answer)?;
+            Ok(())
+        }
+        None => Err(Fail::new("no answer")),
+    }
 }
 
 fn do_line(
@@ -239,19 +278,15 @@ fn do_line(
     line: &StepLine,
 ) -> Result<(), Fail> {
     match line {
-        StepLine::Call(call) => make(rt, alloc, player, call)?,
+        StepLine::Call(call) => make(rt, alloc, player, call),
         StepLine::Fire => {
             fire(alloc, player)?;
+            Ok(())
         }
-        StepLine::Work(k) => {
-            take_again(rt, alloc, player, MemoryCall::Work(*k))?;
-        }
-        StepLine::Element => {
-            take_again(rt, alloc, player, MemoryCall::Turn)?;
-        }
-        StepLine::Drain => drain(rt, alloc, player)?,
+        StepLine::Work(k) => take_step(rt, alloc, player, MemoryCall::Work(*k)),
+        StepLine::Element => take_step(rt, alloc, player, MemoryCall::Turn),
+        StepLine::Drain => drain(rt, alloc, player),
     }
-    Ok(())
 }
 
 fn script_once(alloc: Global) -> Result<Script, OutOfMemory> {
@@ -268,14 +303,17 @@ fn script(alloc: Global) -> Result<Script, OutOfMemory> {
     }
 }
 
+fn blob(alloc: Global, text: &BlobText) -> Result<Bytes, OutOfMemory> {
+    match text {
+        BlobText::Hex(bytes) => bytes.copy(),
+        BlobText::File(_) => Ok(make_file(alloc, 1)?),
+    }
+}
+
 fn blobs_once(alloc: Global, script: &Script) -> Result<Blobs, OutOfMemory> {
     let mut blobs = Blobs::new(alloc);
-    for blob in script.blobs.as_slice() {
-        let bytes = match blob {
-            BlobText::Hex(bytes) => bytes.copy()?,
-            BlobText::File(_) => make_file(alloc, 1)?,
-        };
-        blobs.push(bytes)?;
+    for text in script.blobs.as_slice() {
+        blobs.push(blob(alloc, text)?)?;
     }
     Ok(blobs)
 }
@@ -287,21 +325,49 @@ fn blobs(alloc: Global, script: &Script) -> Result<Blobs, OutOfMemory> {
     }
 }
 
+fn new_player(alloc: Global, script: &Script) -> Result<Player, OutOfMemory> {
+    let blobs = blobs(alloc, script)?;
+    Ok(Player {
+        engine: Engine::new(alloc, script.quota, Ticks::zero()),
+        blobs,
+        text: String::new(alloc),
+    })
+}
+
+/// Whether what was printed, and then what is shown, is all that is to be printed.
+fn is_all_printed(alloc: Global, player: &Player) -> Result<bool, OutOfMemory> {
+    let end = player_text(alloc, player)?;
+    Ok(
+        PRINTS.starts_with(player.text.as_str())
+            && PRINTS.ends_with(end.as_str())
+            && PRINTS.len() == player.text.len() + end.as_str().len(),
+    )
+}
+
+/// Takes all steps of a script, and tells whether all was printed.
+fn prints_all(
+    rt: &impl Abort,
+    alloc: Global,
+    player: &mut Player,
+    script: &Script,
+) -> Result<bool, Fail> {
+    for line in script.steps.as_slice() {
+        do_line(rt, alloc, player, line)?;
+    }
+    let all = is_all_printed(alloc, player)?;
+    Ok(all)
+}
+
+/// The player and the script are each owned by a function that does little else, so that no step has to let them go.
+fn play(rt: &impl Abort, alloc: Global, script: &Script) -> Result<bool, Fail> {
+    let mut player = new_player(alloc, script)?;
+    prints_all(rt, alloc, &mut player, script)
+}
+
 #[test]
 fn each_step_again(rt: HostRuntime) -> Result<(), Fail> {
-    let alloc = rt.alloc();
-    let script = script(alloc)?;
-    let mut player = Player {
-        engine: Engine::new(alloc, script.quota, Ticks::zero()),
-        blobs: blobs(alloc, &script)?,
-        text: String::new(alloc),
-    };
-    for line in script.steps.as_slice() {
-        do_line(&rt, alloc, &mut player, line)?;
-    }
-    let end = player_text(alloc, &player)?;
-    assert!(rt; PRINTS.starts_with(player.text.as_str()));
-    assert!(rt; PRINTS.ends_with(end.as_str()));
-    assert_eq!(rt; PRINTS.len(), player.text.len() + end.as_str().len());
+    let script = script(rt.alloc())?;
+    let is_all_printed = play(&rt, rt.alloc(), &script)?;
+    assert!(rt; is_all_printed);
     Ok(())
 }

@@ -3,7 +3,7 @@
 use Refusal::{Late, Not, Told};
 use bmff_write::make as make_file;
 use call_script::{BlobText, Script, StepLine, read_script};
-use mse_base::Ticks;
+use mse_base::{Bytes, OutOfMemory, Ticks};
 use mse_calls::{Answer, Blobs, Call, Name};
 use mse_engine::Engine;
 use std::alloc::{AllocError, Global};
@@ -360,15 +360,22 @@ const HEAD: &str = "\
         \"file made.mp4\", \"hex 0000000766726565\"]\n\
     steps = [";
 
-/// A script of the lines.
-fn text_of(alloc: Global, rows: &[Row]) -> Result<String, AllocError> {
-    let mut text = String::from_str(alloc, HEAD)?;
+/// Puts the lines behind the head of a script, and ends it.
+fn put_lines(text: &mut String, rows: &[Row]) -> Result<(), AllocError> {
+    text.push_str(HEAD)?;
     for (line, _) in rows {
         text.push_str("\"")?;
         text.push_str(line)?;
         text.push_str("\", ")?;
     }
     text.push_str("]\n")?;
+    Ok(())
+}
+
+/// A script of the lines.
+fn text_of(alloc: Global, rows: &[Row]) -> Result<String, AllocError> {
+    let mut text = String::new(alloc);
+    put_lines(&mut text, rows)?;
     Ok(text)
 }
 
@@ -376,22 +383,31 @@ fn script_of(alloc: Global, rows: &[Row]) -> Result<Script, Fail> {
     let text = text_of(alloc, rows)?;
     match read_script(alloc, text.as_bytes()) {
         Ok(script) => Ok(script),
-        Err(_) => Err("no script")?,
+        Err(_) => Err(Fail::new("no script")),
     }
 }
 
-fn scene_of(alloc: Global, script: &Script) -> Result<Scene, Fail> {
-    let mut blobs = Blobs::new(alloc);
-    for blob in script.blobs.as_slice() {
-        match blob {
-            BlobText::Hex(bytes) => blobs.push(bytes.copy()?)?,
-            BlobText::File(_) => blobs.push(make_file(alloc, 1)?)?,
-        }
+fn blob_of(alloc: Global, text: &BlobText) -> Result<Bytes, OutOfMemory> {
+    match text {
+        BlobText::Hex(bytes) => bytes.copy(),
+        BlobText::File(_) => Ok(make_file(alloc, 1)?),
     }
-    Ok(Scene {
+}
+
+fn put_blobs(alloc: Global, blobs: &mut Blobs, script: &Script) -> Result<(), OutOfMemory> {
+    for text in script.blobs.as_slice() {
+        blobs.push(blob_of(alloc, text)?)?;
+    }
+    Ok(())
+}
+
+fn scene_of(alloc: Global, script: &Script) -> Result<Scene, OutOfMemory> {
+    let mut scene = Scene {
         engine: Engine::new(alloc, script.quota, Ticks::zero()),
-        blobs,
-    })
+        blobs: Blobs::new(alloc),
+    };
+    put_blobs(alloc, &mut scene.blobs, script)?;
+    Ok(scene)
 }
 
 /// What is told before a call, and what it then answers.
@@ -422,29 +438,60 @@ fn drain(scene: &mut Scene) -> Result<(), Fail> {
     Ok(())
 }
 
-/// Makes the calls of the rows one after the other.
-fn check(rt: &(impl Abort + AllocGlobal), name: &str, rows: &[Row]) -> Result<(), Fail> {
-    let script = script_of(rt.alloc(), rows)?;
-    let mut scene = scene_of(rt.alloc(), &script)?;
-    let mut steps = script.steps.as_slice().iter();
-    for (i, (line, refusal)) in rows.iter().enumerate() {
-        match steps.next() {
-            Some(StepLine::Call(call)) => {
-                let found = refusals(&mut scene, call)?;
-                assert!(rt;
-                    found == names(*refusal),
-                    "{name}, row {i}, {line}: {found:?}"
-                );
-            }
-            Some(_) => drain(&mut scene)?,
-            None => return Err("no step")?,
+/// Takes a step, and tells whether it is refused as its row says; a step that is no call is a drain.
+fn is_as_told(scene: &mut Scene, step: &StepLine, refusal: Refusal) -> Result<bool, Fail> {
+    match step {
+        StepLine::Call(call) => {
+            let found = refusals(scene, call)?;
+            Ok(found == names(refusal))
         }
+        _ => {
+            drain(scene)?;
+            Ok(true)
+        }
+    }
+}
+
+/// The number of the first row that is not so, if there is one. Each row has its step.
+fn first_wrong(scene: &mut Scene, steps: &[StepLine], rows: &[Row]) -> Result<Option<usize>, Fail> {
+    for (i, (_, refusal)) in rows.iter().enumerate() {
+        let is_so = match steps.get(i) {
+            Some(step) => is_as_told(scene, step, *refusal)?,
+            None => false,
+        };
+        if !is_so {
+            return Ok(Some(i));
+        }
+    }
+    Ok(None)
+}
+
+/// The scene and the script are each owned by a function that does little else, so that no row has to let them go.
+fn first_wrong_step(alloc: Global, script: &Script, rows: &[Row]) -> Result<Option<usize>, Fail> {
+    let mut scene = scene_of(alloc, script)?;
+    first_wrong(&mut scene, script.steps.as_slice(), rows)
+}
+
+/// The same for the rows of a table, with a script of their lines.
+fn first_wrong_row(alloc: Global, rows: &[Row]) -> Result<Option<usize>, Fail> {
+    let script = script_of(alloc, rows)?;
+    first_wrong_step(alloc, &script, rows)
+}
+
+/// Makes the calls of the rows of each table one after the other.
+fn check(rt: &(impl Abort + AllocGlobal), tables: &[Table]) -> Result<(), Fail> {
+    for (name, rows) in tables {
+        let wrong = first_wrong_row(rt.alloc(), rows)?;
+        assert!(rt; wrong.is_none(), "{name}, row {wrong:?}");
     }
     Ok(())
 }
 
+/// A name and its rows.
+type Table = (&'static str, &'static [Row]);
+
 /// Tables by their names.
-const TABLES: [(&str, &[Row]); 18] = [
+const TABLES: [Table; 18] = [
     ("of the source", &OF_THE_SOURCE),
     ("of times and bytes", &OF_TIMES_AND_BYTES),
     ("of an append", &OF_AN_APPEND),
@@ -470,8 +517,5 @@ const TABLES: [(&str, &[Row]); 18] = [
 
 #[test]
 fn are_told_before_a_call(rt: HostRuntime) -> Result<(), Fail> {
-    for (name, rows) in &TABLES {
-        check(&rt, name, rows)?;
-    }
-    Ok(())
+    check(&rt, &TABLES)
 }

@@ -56,12 +56,16 @@ pub(super) fn boxed_listener(
     Ok(listener)
 }
 
-fn listener_once(alloc: Global, rows: &[RuleRow]) -> Result<Box<dyn Listener>, OutOfMemory> {
+fn rules(alloc: Global, rows: &[RuleRow]) -> Result<Vec<Rule>, OutOfMemory> {
     let mut rules = Vec::new(alloc);
     for row in rows {
         rules.push(rule(alloc, row)?)?;
     }
-    let listener = boxed_listener(alloc, rules)?;
+    Ok(rules)
+}
+
+fn listener_once(alloc: Global, rows: &[RuleRow]) -> Result<Box<dyn Listener>, OutOfMemory> {
+    let listener = boxed_listener(alloc, rules(alloc, rows)?)?;
     Ok(listener)
 }
 
@@ -104,14 +108,25 @@ fn is_next(
     }
 }
 
+/// The same of the first call for what was heard, or of one behind a call that was made.
+fn is_call(
+    listener: &mut Box<dyn Listener>,
+    is_first: bool,
+    number: u32,
+) -> Result<bool, OutOfMemory> {
+    if is_first {
+        return is_next(listener, None, Some(number));
+    }
+    let done = Answer::Done;
+    is_next(listener, Some(&done), Some(number))
+}
+
 /// Asks a listener for as many calls as there are numbers, and tells whether they are on the buffers of these numbers.
 fn makes(listener: &mut Box<dyn Listener>, numbers: &[u32]) -> Result<bool, OutOfMemory> {
-    let mut last = None;
-    for k in numbers {
-        if !is_next(listener, last.as_ref(), Some(*k))? {
+    for (i, k) in numbers.iter().enumerate() {
+        if !is_call(listener, i == 0, *k)? {
             return Ok(false);
         }
-        last = Some(Answer::Done);
     }
     Ok(true)
 }
@@ -263,33 +278,69 @@ const CASES: [Case; 6] = [
     ),
 ];
 
-fn run_case(rt: &(impl Abort + AllocGlobal), case: &Case) -> Result<(), OutOfMemory> {
-    let (name, rows, acts) = case;
-    let mut listener = listener(rt.alloc(), rows)?;
+/// The number of the first act of the case that the listener does not do, if there is one.
+fn first_undone(
+    listener: &mut Box<dyn Listener>,
+    acts: &[Act],
+) -> Result<Option<usize>, OutOfMemory> {
     for (i, act) in acts.iter().enumerate() {
-        assert!(rt; does(&mut listener, *act)?, "{name}: {i}");
+        if !does(listener, *act)? {
+            return Ok(Some(i));
+        }
+    }
+    Ok(None)
+}
+
+/// The same of a listener with the rules of the rows.
+fn first_undone_by(
+    alloc: Global,
+    rows: &[RuleRow],
+    acts: &[Act],
+) -> Result<Option<usize>, OutOfMemory> {
+    let mut listener = listener(alloc, rows)?;
+    first_undone(&mut listener, acts)
+}
+
+fn run_cases(rt: &(impl Abort + AllocGlobal), cases: &[Case]) -> Result<(), Fail> {
+    for (name, rows, acts) in cases {
+        let undone = first_undone_by(rt.alloc(), rows, acts)?;
+        assert!(rt; undone.is_none(), "{name}: {undone:?}");
     }
     Ok(())
 }
 
 #[test]
 fn calls_by_rules(rt: HostRuntime) -> Result<(), Fail> {
-    for case in &CASES {
-        run_case(&rt, case)?;
-    }
-    Ok(())
+    run_cases(&rt, &CASES)
 }
 
-/// Whether a listener makes all calls of a rule of so many, and then rests.
-fn makes_all(alloc: Global, count: u32) -> Result<bool, OutOfMemory> {
+fn first_numbers(alloc: Global, count: u32) -> Result<Vec<u32>, OutOfMemory> {
     let mut numbers = Vec::new(alloc);
     for k in 0..count {
         numbers.push(k)?;
     }
-    let mut listener = listener(alloc, &[(OPEN, 1, false, numbers.as_slice())])?;
-    hear(&mut listener, &OPEN)?;
-    let all = makes(&mut listener, numbers.as_slice())?;
-    Ok(all && is_next(&mut listener, None, None)?)
+    Ok(numbers)
+}
+
+/// Whether a listener that hears its event makes these calls, and then rests.
+fn makes_these(listener: &mut Box<dyn Listener>, numbers: &[u32]) -> Result<bool, OutOfMemory> {
+    hear(listener, &OPEN)?;
+    if !makes(listener, numbers)? {
+        return Ok(false);
+    }
+    is_next(listener, None, None)
+}
+
+/// The same of a listener with one rule of these calls.
+fn makes_its_calls(alloc: Global, numbers: &[u32]) -> Result<bool, OutOfMemory> {
+    let mut listener = listener(alloc, &[(OPEN, 1, false, numbers)])?;
+    makes_these(&mut listener, numbers)
+}
+
+/// Whether a listener makes all calls of a rule of so many, and then rests.
+fn makes_all(alloc: Global, count: u32) -> Result<bool, OutOfMemory> {
+    let numbers = first_numbers(alloc, count)?;
+    makes_its_calls(alloc, numbers.as_slice())
 }
 
 /// A listener sets no limit: that of 1,000 calls for one event is kept where its calls are made.
@@ -308,14 +359,18 @@ fn of_buffer(k: u32, kind: EventKind) -> Event {
     }
 }
 
-/// A listener with a rule on the `updateend` of each of so many buffers.
-fn listener_of_many(alloc: Global, count: u32) -> Result<Box<dyn Listener>, OutOfMemory> {
+fn rules_of_many(alloc: Global, count: u32) -> Result<Vec<Rule>, OutOfMemory> {
     let mut rules = Vec::new(alloc);
     for k in 0..count {
         let on = of_buffer(k, EventKind::UpdateEnd);
         rules.push(rule(alloc, &(on, 1, false, &[k]))?)?;
     }
-    let listener = boxed_listener(alloc, rules)?;
+    Ok(rules)
+}
+
+/// A listener with a rule on the `updateend` of each of so many buffers.
+fn listener_of_many(alloc: Global, count: u32) -> Result<Box<dyn Listener>, OutOfMemory> {
+    let listener = boxed_listener(alloc, rules_of_many(alloc, count)?)?;
     Ok(listener)
 }
 
