@@ -403,7 +403,7 @@ fn is_as_replayed(alloc: Global, scene: &mut DispatchScene) -> Result<bool, OutO
     are_alike(alloc, scene, &mut other)
 }
 
-/// The scene is owned by the test alone, so that no step has to let it go.
+/// Whether a dispatch in this scene is cut well, where it is cut.
 fn is_cut_well(alloc: Global, scene: &mut DispatchScene) -> Result<bool, Fail> {
     if !does_a_front_part(alloc, scene)? {
         return Ok(false);
@@ -412,10 +412,15 @@ fn is_cut_well(alloc: Global, scene: &mut DispatchScene) -> Result<bool, Fail> {
     Ok(is_replayed)
 }
 
+/// The same of a new scene, which this function owns and does little else, so that no step has to let it go.
+fn is_new_cut_well(alloc: Global) -> Result<bool, Fail> {
+    let mut scene = scene(alloc)?;
+    is_cut_well(alloc, &mut scene)
+}
+
 #[test]
 fn cut_anywhere(rt: HostRuntime) -> Result<(), Fail> {
-    let mut scene = scene(rt.alloc())?;
-    let is_cut_well = is_cut_well(rt.alloc(), &mut scene)?;
+    let is_cut_well = is_new_cut_well(rt.alloc())?;
     assert!(rt; is_cut_well);
     Ok(())
 }

@@ -490,32 +490,48 @@ fn check(rt: &(impl Abort + AllocGlobal), tables: &[Table]) -> Result<(), Fail> 
 /// A name and its rows.
 type Table = (&'static str, &'static [Row]);
 
-/// Tables by their names.
-const TABLES: [Table; 18] = [
+/// The tables by their names, in three groups: the proof of a test grows faster than the number of its tables.
+const OF_A_SOURCE: [Table; 5] = [
     ("of the source", &OF_THE_SOURCE),
+    ("of a removed buffer", &OF_A_REMOVED_BUFFER),
+    ("of seventeen buffers", &OF_SEVENTEEN_BUFFERS),
+    ("behind a fault", &BEHIND_A_FAULT),
+    ("of the element", &OF_THE_ELEMENT),
+];
+
+const OF_A_BUFFER: [Table; 6] = [
     ("of times and bytes", &OF_TIMES_AND_BYTES),
     ("of an append", &OF_AN_APPEND),
     ("of a removal", &OF_A_REMOVAL),
     ("of frames that are there", &OF_FRAMES_THAT_ARE_THERE),
     ("of a segment that has begun", &OF_A_SEGMENT_THAT_HAS_BEGUN),
     ("of a full buffer", &OF_A_FULL_BUFFER),
-    ("of a removed buffer", &OF_A_REMOVED_BUFFER),
-    ("of seventeen buffers", &OF_SEVENTEEN_BUFFERS),
-    ("behind a fault", &BEHIND_A_FAULT),
-    ("of the element", &OF_THE_ELEMENT),
-    ("of MP4 before a segment", &OF_MP4_BEFORE_A_SEGMENT),
-    ("of MP4 while it updates", &OF_MP4_WHILE_IT_UPDATES),
-    ("of MP4 in a media segment", &OF_MP4_IN_A_MEDIA_SEGMENT),
+];
+
+const OF_MP4: [Table; 7] = [
+    ("before a segment", &OF_MP4_BEFORE_A_SEGMENT),
+    ("while it updates", &OF_MP4_WHILE_IT_UPDATES),
+    ("in a media segment", &OF_MP4_IN_A_MEDIA_SEGMENT),
     (
-        "of MP4 in a media segment of an ended source",
+        "in a media segment of an ended source",
         &OF_MP4_IN_A_MEDIA_SEGMENT_OF_AN_ENDED_SOURCE,
     ),
-    ("of MP4 between segments", &OF_MP4_BETWEEN_SEGMENTS),
-    ("of a removed MP4", &OF_A_REMOVED_MP4),
-    ("of MP4 behind a fault", &OF_MP4_BEHIND_A_FAULT),
+    ("between segments", &OF_MP4_BETWEEN_SEGMENTS),
+    ("of a removed buffer", &OF_A_REMOVED_MP4),
+    ("behind a fault", &OF_MP4_BEHIND_A_FAULT),
 ];
 
 #[test]
-fn are_told_before_a_call(rt: HostRuntime) -> Result<(), Fail> {
-    check(&rt, &TABLES)
+fn of_a_source_are_told_before_a_call(rt: HostRuntime) -> Result<(), Fail> {
+    check(&rt, &OF_A_SOURCE)
+}
+
+#[test]
+fn of_a_buffer_are_told_before_a_call(rt: HostRuntime) -> Result<(), Fail> {
+    check(&rt, &OF_A_BUFFER)
+}
+
+#[test]
+fn of_mp4_are_told_before_a_call(rt: HostRuntime) -> Result<(), Fail> {
+    check(&rt, &OF_MP4)
 }
