@@ -32,7 +32,7 @@ const WHOLE: Piece = Piece {
 const LIMIT: u64 = 100;
 
 /// What is printed where all calls are made.
-const LINES: [&str; 9] = [
+static LINES: [&str; 9] = [
     "call attach: done\n",
     "event source sourceopen\n",
     "listener 0 add video/mp4: done\n",
@@ -56,7 +56,7 @@ enum Asked {
 }
 
 /// The calls of the three listeners, in their order.
-const CALLS: [Asked; 7] = [
+static CALLS: [Asked; 7] = [
     Asked::Add,
     Asked::Add,
     Asked::Add,
@@ -162,7 +162,7 @@ enum ListenerRow {
     Appends,
 }
 
-const LISTENERS: [ListenerRow; 3] = [
+static LISTENERS: [ListenerRow; 3] = [
     ListenerRow::ByRules(&[Asked::Add, Asked::Add, Asked::Add]),
     ListenerRow::Appends,
     ListenerRow::ByRules(&[Asked::Buffered, Asked::State]),

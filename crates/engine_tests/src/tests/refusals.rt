@@ -491,7 +491,7 @@ fn check(rt: &(impl Abort + AllocGlobal), tables: &[Table]) -> Result<(), Fail> 
 type Table = (&'static str, &'static [Row]);
 
 /// The tables by their names, in three groups: the proof of a test grows faster than the number of its tables.
-const OF_A_SOURCE: [Table; 5] = [
+static OF_A_SOURCE: [Table; 5] = [
     ("of the source", &OF_THE_SOURCE),
     ("of a removed buffer", &OF_A_REMOVED_BUFFER),
     ("of seventeen buffers", &OF_SEVENTEEN_BUFFERS),
@@ -499,7 +499,7 @@ const OF_A_SOURCE: [Table; 5] = [
     ("of the element", &OF_THE_ELEMENT),
 ];
 
-const OF_A_BUFFER: [Table; 6] = [
+static OF_A_BUFFER: [Table; 6] = [
     ("of times and bytes", &OF_TIMES_AND_BYTES),
     ("of an append", &OF_AN_APPEND),
     ("of a removal", &OF_A_REMOVAL),
@@ -508,7 +508,7 @@ const OF_A_BUFFER: [Table; 6] = [
     ("of a full buffer", &OF_A_FULL_BUFFER),
 ];
 
-const OF_MP4: [Table; 7] = [
+static OF_MP4: [Table; 7] = [
     ("before a segment", &OF_MP4_BEFORE_A_SEGMENT),
     ("while it updates", &OF_MP4_WHILE_IT_UPDATES),
     ("in a media segment", &OF_MP4_IN_A_MEDIA_SEGMENT),

@@ -160,7 +160,7 @@ fn does(listener: &mut Box<dyn Listener>, act: Act) -> Result<bool, OutOfMemory>
 /// A name, rules, and what a listener with these rules does.
 type Case = (&'static str, &'static [RuleRow<'static>], &'static [Act]);
 
-const CASES: [Case; 6] = [
+static CASES: [Case; 6] = [
     (
         "rules in their order",
         &[
