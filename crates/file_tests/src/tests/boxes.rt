@@ -5,7 +5,7 @@ use bmff_boxes::*;
 use std::process::Abort;
 
 /// The first bytes of a box, and what its header tells.
-const HEADERS: [(&[u8], Header); 14] = [
+static HEADERS: [(&[u8], Header); 14] = [
     (b"\0\0\0\x08moo", Header::Short),
     (b"\0\0\0\x01free\0\0\0\0\0\0\0", Header::Short),
     (b"\0\0\0\0free", Header::Bad(HeadFault::SizeZero)),
@@ -88,7 +88,7 @@ fn headers(rt: HostRuntime) {
 const ROW: [u8; 30] = *b"\0\0\0\x0Aaaaa\x01\x02\0\0\0\x08bbbb\0\0\0\x0Caaaa\x03\x04\x05\x06";
 
 /// The type and the payload of each box of the row.
-const BOXES: [([u8; 4], &[u8]); 3] = [
+static BOXES: [([u8; 4], &[u8]); 3] = [
     (*b"aaaa", &[1, 2]),
     (*b"bbbb", &[]),
     (*b"aaaa", &[3, 4, 5, 6]),
@@ -238,7 +238,7 @@ fn read_field(field: &Field, payload: &[u8]) -> Option<u64> {
 /// A name, a field, a payload, how many of its bytes there are, and the number that is read.
 type FieldRow = (&'static str, Field, &'static [u8], usize, Option<u64>);
 
-const FIELDS: [FieldRow; 33] = [
+static FIELDS: [FieldRow; 33] = [
     ("version 1", Version, &ONE, 32, Some(1)),
     ("no version", Version, &ONE, 0, None),
     ("flags", Flags, &ONE, 32, Some(0x3B)),
@@ -387,7 +387,7 @@ type OptionalRow = (
     OptionalNumber,
 );
 
-const OPTIONAL_FIELDS: [OptionalRow; 21] = [
+static OPTIONAL_FIELDS: [OptionalRow; 21] = [
     ("no description", TfhdDescription, &ZERO, 32, Some(None)),
     ("no size", TfhdSize, &ZERO, 32, Some(None)),
     ("no flags", TfhdFlags, &ZERO, 32, Some(None)),
@@ -459,7 +459,7 @@ const LONG_EDIT: [u8; 28] = *b"\x01\0\0\0\0\0\0\x01\
     \0\0\0\x01\0\0\0\0\xFF\xFF\xFF\xFF\xFF\xFF\xFF\xFE\0\x01\x80\0";
 
 /// An edit list, how many of its bytes there are, the place of an entry, and the entry.
-const EDIT_LISTS: [(&[u8], usize, u32, Option<EditEntry>); 6] = [
+static EDIT_LISTS: [(&[u8], usize, u32, Option<EditEntry>); 6] = [
     (
         &EDITS,
         32,
@@ -516,7 +516,7 @@ const SMALL_RUN: [u8; 24] = *b"\0\0\x0A\0\0\0\0\x02\
     \0\0\0\x06\0\0\0\x07";
 
 /// A run, how many of its bytes there are, the place of a sample, and the sample.
-const SAMPLES: [(&[u8], usize, u32, Option<TrunSample>); 8] = [
+static SAMPLES: [(&[u8], usize, u32, Option<TrunSample>); 8] = [
     (
         &FULL_RUN,
         48,
@@ -585,7 +585,7 @@ fn runs_of_samples(rt: HostRuntime) {
 }
 
 /// Runs, how many bytes there are, how many samples are asked for, and whether the fields of so many are there.
-const RUNS: [(&[u8], usize, u32, bool); 9] = [
+static RUNS: [(&[u8], usize, u32, bool); 9] = [
     (&FULL_RUN, 48, 2, true),
     (&SMALL_RUN, 24, 2, true),
     (&[0; 8], 8, 1000, true),
@@ -619,7 +619,7 @@ fn fields_of_runs(rt: HostRuntime) {
 }
 
 /// A box, how many of its bytes there are, and its payload.
-const PAYLOADS: [(&[u8], usize, Option<&[u8]>); 5] = [
+static PAYLOADS: [(&[u8], usize, Option<&[u8]>); 5] = [
     (&ROW, 30, Some(&[1, 2])),
     (b"\0\0\0\x01free\0\0\0\0\0\0\0\x11\x05", 17, Some(&[5])),
     (&ROW, 9, None),

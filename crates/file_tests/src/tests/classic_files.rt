@@ -8,7 +8,7 @@ use std::process::Abort;
 type Table = ([u8; 4], u8, &'static [u32]);
 
 /// A classic file of 32 bytes of media and a movie box, up to the handler of its one track.
-const FILE_FRONT: [Part<'static>; 27] = [
+static FILE_FRONT: [Part<'static>; 27] = [
     Part::Open(b"mdat"),
     Part::Bytes(&[0; 24]),
     Part::Close,
@@ -39,7 +39,7 @@ const FILE_FRONT: [Part<'static>; 27] = [
 ];
 
 /// What stands between the handler and the tables.
-const SAMPLE_ENTRY: [Part<'static>; 8] = [
+static SAMPLE_ENTRY: [Part<'static>; 8] = [
     Part::Close,
     Part::Open(b"minf"),
     Part::Open(b"stbl"),
@@ -96,7 +96,7 @@ const DURATIONS: Table = (*b"stts", 0, &[2, 2, 10, 3, 20]);
 const CHUNKS: Table = (*b"stsc", 0, &[2, 1, 2, 1, 2, 3, 1]);
 
 /// Sizes and composition offsets of each kind, with sync samples.
-const FIRST: [Table; 6] = [
+static FIRST: [Table; 6] = [
     DURATIONS,
     (*b"ctts", 0, &[2, 1, 7, 4, 0]),
     (*b"stss", 0, &[2, 1, 4]),
@@ -105,7 +105,7 @@ const FIRST: [Table; 6] = [
     (*b"stco", 0, &[2, 8, 20]),
 ];
 
-const FIRST_TOLD: [Told; 5] = [
+static FIRST_TOLD: [Told; 5] = [
     (0, 8, 3, 10, 7, true),
     (10, 11, 1, 10, 0, false),
     (20, 20, 0, 20, 0, false),
@@ -114,7 +114,7 @@ const FIRST_TOLD: [Told; 5] = [
 ];
 
 /// One size, signed offsets, places of eight bytes, no table of sync samples.
-const SECOND: [Table; 5] = [
+static SECOND: [Table; 5] = [
     DURATIONS,
     (*b"ctts", 1, &[3, 4, 0xFFFF_FFFB, 0, 0x7FFF_FFFF, 1, 6]),
     (*b"stsz", 0, &[2, 5]),
@@ -122,7 +122,7 @@ const SECOND: [Table; 5] = [
     (*b"co64", 0, &[2, 0, 8, 0, 20]),
 ];
 
-const SECOND_TOLD: [Told; 5] = [
+static SECOND_TOLD: [Told; 5] = [
     (0, 8, 2, 10, -5, true),
     (10, 10, 2, 10, -5, true),
     (20, 20, 2, 20, -5, true),
@@ -179,7 +179,7 @@ fn fault_of(outcome: Result<Vec<MediaTrack>, FileError>) -> Option<PlacedFault> 
 const MISSING: MovieFault = MovieFault::Moov(InitFault::Missing(*b"stco"));
 
 /// A table in the place of one of the first file, and the fault.
-const FAULTS: [(usize, Table, MovieFault); 13] = [
+static FAULTS: [(usize, Table, MovieFault); 13] = [
     (0, (*b"stts", 0, &[2, 2, 10, 2, 20]), MovieFault::Tables),
     (
         0,
@@ -256,7 +256,7 @@ fn counts(rt: &(impl Abort + AllocGlobal), tables: &[Table]) -> Option<(usize, u
 /// A table of sync samples without entries.
 const NO_SYNC_SAMPLES: Table = (*b"stss", 0, &[0]);
 
-const NO_SAMPLES: [Table; 4] = [
+static NO_SAMPLES: [Table; 4] = [
     (*b"stts", 0, &[0]),
     (*b"stsz", 0, &[0, 0]),
     (*b"stsc", 0, &[0]),

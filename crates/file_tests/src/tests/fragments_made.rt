@@ -9,7 +9,7 @@ use std::process::Abort;
 
 /// A classic file of one video track, whose movie box is at 44. Its three samples of four bytes are one chunk at 32, and
 /// the first is a sync sample.
-const CLASSIC: [Part<'static>; 57] = [
+static CLASSIC: [Part<'static>; 57] = [
     Part::Open(b"ftyp"),
     Part::Bytes(b"iso6\0\0\0\0iso6mp41"),
     Part::Close,
@@ -110,7 +110,7 @@ fn fragments_of_a_video_track(rt: HostRuntime) {
 /// Bytes to write over a box: its type, a place from its first byte on, and the bytes; and the fault.
 type Change = ([u8; 4], usize, &'static [u8], RemuxFault);
 
-const FAULTS: [Change; 21] = [
+static FAULTS: [Change; 21] = [
     (*b"stco", 16, &[0xFF; 4], RemuxFault::Place),
     (*b"stco", 16, b"\0\0\x01\xFF", RemuxFault::Place),
     (*b"stts", 16, &[0, 0, 0, 2], RemuxFault::Tables),

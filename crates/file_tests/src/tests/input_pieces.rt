@@ -104,7 +104,7 @@ fn play(rt: &(impl Abort + AllocGlobal), calls: &[PieceCall]) {
 
 const SEVENS: [u8; 4092] = [7; 4092];
 
-const COPIED: [PieceCall; 19] = [
+static COPIED: [PieceCall; 19] = [
     PieceCall::Push(b"abc"),
     PieceCall::Push(b""),
     PieceCall::Push(b"de"),
@@ -132,7 +132,7 @@ fn pieces_join_and_split(rt: HostRuntime) {
     play(&rt, &COPIED);
 }
 
-const SHARED: [PieceCall; 11] = [
+static SHARED: [PieceCall; 11] = [
     PieceCall::PushBytes(b"abc"),
     PieceCall::PushBytes(b""),
     PieceCall::PushBytes(b"de"),

@@ -5,14 +5,14 @@ use mse_base::{Kind, Moment, Presentation, Ticks, TrackInfo};
 use std::process::Abort;
 
 /// A track box, up to the last byte of its number.
-const TRACK_HEAD: [Part<'static>; 3] = [
+static TRACK_HEAD: [Part<'static>; 3] = [
     Part::Open(b"trak"),
     Part::Open(b"tkhd"),
     Part::Bytes(&[0; 15]),
 ];
 
 /// A media box with the timescale 90000, up to its handler.
-const MEDIA_HEAD: [Part<'static>; 7] = [
+static MEDIA_HEAD: [Part<'static>; 7] = [
     Part::Open(b"mdia"),
     Part::Open(b"mdhd"),
     Part::Bytes(&[0; 12]),
@@ -23,7 +23,7 @@ const MEDIA_HEAD: [Part<'static>; 7] = [
 ];
 
 /// One `avc1` sample entry and no samples, up to the end of the track.
-const TABLES: [Part<'static>; 21] = [
+static TABLES: [Part<'static>; 21] = [
     Part::Close,
     Part::Open(b"minf"),
     Part::Open(b"stbl"),
@@ -97,7 +97,7 @@ const NONE: Change = (*b"moov", 4, b"moov");
 const FREE: &[u8] = b"\0\0\0\x08free";
 
 /// Two tracks, changed at one or two places, and the first fault.
-const FAULTS: [(Change, Change, InitFault); 34] = [
+static FAULTS: [(Change, Change, InitFault); 34] = [
     ((*b"mvhd", 4, b"free"), NONE, InitFault::Missing(*b"mvhd")),
     (
         (*b"mvhd", 4, b"free"),
@@ -192,7 +192,7 @@ const EDITS: [Part<'static>; 5] = [
 ];
 
 /// The duration, and the defaults of track 1: five units, a size and flags.
-const DEFAULTS: [Part<'static>; 6] = [
+static DEFAULTS: [Part<'static>; 6] = [
     Part::Open(b"mehd"),
     Part::Bytes(&[0; 8]),
     Part::Close,
@@ -234,7 +234,7 @@ fn faults(rt: HostRuntime) {
 
 /// Versions and lengths of movie headers: one that ends within its timescale, behind it, within its duration or behind
 /// that; and the faults with the timescale 1 and with 0. A header that is too short is that first.
-const HEADERS: [(u8, usize, Option<InitFault>, Option<InitFault>); 9] = [
+static HEADERS: [(u8, usize, Option<InitFault>, Option<InitFault>); 9] = [
     (0, 15, Some(InitFault::Size), Some(InitFault::Size)),
     (0, 16, Some(InitFault::Size), Some(InitFault::Size)),
     (0, 19, Some(InitFault::Size), Some(InitFault::Size)),
@@ -338,7 +338,7 @@ type Edits = (
     &'static [u8],
 );
 
-const EDIT_LISTS: [(Edits, Result<(i64, i128), InitFault>); 20] = [
+static EDIT_LISTS: [(Edits, Result<(i64, i128), InitFault>); 20] = [
     ((HEADER, b"\0\0\0\0\0\0\0\0", b"", 0, b""), Ok((0, 0))),
     (
         (HEADER, b"\0\0\0\0\0\0\0\x01", b"", 0, MEDIA),
@@ -478,7 +478,7 @@ fn first_track(presentation: &Presentation) -> Option<Wanted> {
 }
 
 /// Two defaults of track 64, of five units and of nine.
-const TWO_DEFAULTS: [Part<'static>; 6] = [
+static TWO_DEFAULTS: [Part<'static>; 6] = [
     Part::Open(b"trex"),
     Part::Bytes(b"\0\0\0\0\0\0\0\x40\0\0\0\x01\0\0\0\x05\0\0\0\x07\0\x01\0\0"),
     Part::Close,

@@ -2,7 +2,7 @@ use super::rows::{expect, expect_at};
 use mse_types::*;
 
 /// Each text without quotes, with its answer.
-const TEXTS: [(&str, TypeAnswer); 42] = [
+static TEXTS: [(&str, TypeAnswer); 42] = [
     ("", TypeAnswer::Empty),
     ("video/mp4", TypeAnswer::Supported(Container::Mp4)),
     ("audio/mp4", TypeAnswer::Supported(Container::Mp4)),
@@ -76,7 +76,7 @@ fn types(rt: HostRuntime) {
 }
 
 /// Each text with quotes, with its answer.
-const QUOTED: [(&str, TypeAnswer); 24] = [
+static QUOTED: [(&str, TypeAnswer); 24] = [
     ("video/mp4; codecs=\"\"", TypeAnswer::Unsupported),
     ("video/mp4; codecs=\"", TypeAnswer::Unsupported),
     (
@@ -141,7 +141,7 @@ fn types_with_quotes(rt: HostRuntime) {
 }
 
 /// Types of sample entries, and whether they are known.
-const SAMPLE_ENTRIES: [([u8; 4], bool); 5] = [
+static SAMPLE_ENTRIES: [([u8; 4], bool); 5] = [
     (*b"avc1", true),
     (*b"Opus", true),
     (*b"opus", false),
