@@ -5,7 +5,7 @@ use mse_calls::{Blobs, Piece};
 use std::process::Abort;
 
 /// Blobs, parts of them, and the bytes of each.
-const PARTS: [(u32, Option<(u64, u64)>, Option<&[u8]>); 6] = [
+static PARTS: [(u32, Option<(u64, u64)>, Option<&[u8]>); 6] = [
     (0, None, Some(&[1, 2])),
     (0, Some((1, 1)), Some(&[2])),
     (0, Some((2, 0)), Some(&[])),

@@ -5,7 +5,7 @@ use run_journal::Journal;
 use std::process::Abort;
 
 /// The entries of `journal_of_calls`, and then none.
-const CALLS: [&str; 6] = [
+static CALLS: [&str; 6] = [
     "Some(Append(3, Piece { blob: 2, part: Some((7, 1)) }))",
     "Some(Step(9))",
     "Some(Script(AppendBuffer(4, Piece { blob: 2, part: Some((7, 1)) }), Refused(InvalidState)))",
@@ -36,7 +36,7 @@ fn journal_of_calls(rt: &(impl Abort + AllocGlobal)) -> Journal {
 }
 
 /// The entries of `journal_of_work`, and then none.
-const RUNS_OF_WORK: [&str; 11] = [
+static RUNS_OF_WORK: [&str; 11] = [
     "Some(Work(1))",
     "Some(Work(1))",
     "Some(Work(1))",

@@ -106,7 +106,7 @@ fn expect_meaning(rt: &(impl Abort + AllocGlobal), script: &str, settings: &str,
 }
 
 /// Scripts of settings, blobs and faults, each with what it means.
-const SCRIPTS: [(&str, &str); 59] = [
+static SCRIPTS: [(&str, &str); 59] = [
     ("", "quota 134217728 drain 100000 gap 0\n"),
     ("# nothing\n", "quota 134217728 drain 100000 gap 0\n"),
     ("\u{feff}gap = 1\n", "quota 134217728 drain 100000 gap 1\n"),
@@ -200,7 +200,7 @@ fn scripts(rt: HostRuntime) {
 const DEFAULTS: &str = "quota 134217728 drain 100000 gap 0\n";
 
 /// Lines that are step lines, with what they print.
-const LINES: [(&str, &str); 39] = [
+static LINES: [(&str, &str); 39] = [
     ("attach", "call attach: done\n"),
     ("add", "call add: done\n"),
     ("add video/mp4", "call add video/mp4: done\n"),
@@ -269,7 +269,7 @@ fn lines(rt: HostRuntime) {
 }
 
 /// Lines that are no step lines, as they stand between the quotes of TOML.
-const BAD_LINES: [&str; 69] = [
+static BAD_LINES: [&str; 69] = [
     "",
     " ",
     " attach",
@@ -350,7 +350,7 @@ fn bad_lines(rt: HostRuntime) {
 }
 
 /// The lines of a rule.
-const RULE: [(&str, &str); 5] = [
+static RULE: [(&str, &str); 5] = [
     ("listener", "listener = 15"),
     ("on", "on = \"buffer 3 updateend\""),
     ("times", "times = 1000000"),
@@ -377,7 +377,7 @@ fn expect_rule(
 }
 
 /// A key with its line in place of the usual one, and what the rule then is.
-const RULES: [(&str, &str, &str); 13] = [
+static RULES: [(&str, &str, &str); 13] = [
     (
         "none",
         "",
@@ -446,7 +446,7 @@ const RULES: [(&str, &str, &str); 13] = [
 ];
 
 /// Lines with which the rule is none.
-const BAD_RULES: [(&str, &str); 28] = [
+static BAD_RULES: [(&str, &str); 28] = [
     ("listener", ""),
     ("on", ""),
     ("calls", ""),
@@ -488,7 +488,7 @@ fn rules(rt: HostRuntime) {
 }
 
 /// Texts of times, with the call that they print in; the empty text where they are no times.
-const TIMES: [(&str, &str); 44] = [
+static TIMES: [(&str, &str); 44] = [
     ("nan", "call seek nan: done\n"),
     ("inf", "call seek inf: done\n"),
     ("0", "call seek 0: done\n"),

@@ -29,7 +29,7 @@ fn expect_fault_of_two(rt: &(impl Abort + AllocGlobal), first: &[u8], second: &[
 }
 
 /// A key, how often a member stands in its list, and the fault.
-const LISTS: [(&str, usize, &str, &str); 12] = [
+static LISTS: [(&str, usize, &str, &str); 12] = [
     ("blobs", 1000, "\"hex \"", "none\n"),
     ("blobs", 1001, "\"hex \"", "fault too many blobs\n"),
     ("steps", 100_000, "\"fire\"", "none\n"),
@@ -67,7 +67,7 @@ fn limits(rt: HostRuntime) {
 
 /// Faults in the order in which they are looked for: a key, its value (a list of so many times the value
 /// where the number is not 0), and the fault.
-const FAULTS: [(&str, &str, usize, &str); 14] = [
+static FAULTS: [(&str, &str, usize, &str); 14] = [
     ("!", "1", 0, "fault not toml\n"),
     ("Rules", "1", 0, "fault key Rules\n"),
     ("aa", "1", 0, "fault key aa\n"),
