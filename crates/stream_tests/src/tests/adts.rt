@@ -140,7 +140,7 @@ fn every_cut_gives_the_same(rt: HostRuntime) {
 /// Two pieces and their items.
 type Row = (&'static [u8], &'static [u8], &'static [Item]);
 
-const PIECES: [Row; 8] = [
+static PIECES: [Row; 8] = [
     // another rate
     (
         &FRAME,
@@ -223,7 +223,7 @@ fn truncated_frames(rt: HostRuntime) {
 }
 
 /// A tag, the bytes behind it, and where the frame behind these is.
-const TAGS: [(&[u8], &[u8], u64); 3] = [
+static TAGS: [(&[u8], &[u8], u64); 3] = [
     (&LARGE, &[0; 129], 139),
     (&FOOTED, &[0; 12], 22),
     (b"TAG", &[0; 125], 128),

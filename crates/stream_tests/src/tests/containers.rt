@@ -199,7 +199,7 @@ const VIDEO: Item = Item::Init(24, 1, 90_000);
 
 const LAST: Item = Item::Frame(747, 4_704_000_000, 4);
 
-const SEGMENTS: [StreamCall; 13] = [
+static SEGMENTS: [StreamCall; 13] = [
     StreamCall::Feed(&[INIT]),
     StreamCall::Phase(Phase::InInit),
     StreamCall::Look(0, VIDEO),
@@ -234,7 +234,7 @@ const ONE_FRAME: &[Item] = &[SOUND, FRAME, Item::SegmentEnd];
 
 const SECOND: Item = Item::Frame(10, 3_276_800_000, 10);
 
-const TWO_FRAMES: [StreamCall; 11] = [
+static TWO_FRAMES: [StreamCall; 11] = [
     StreamCall::Feed(&[HEADER, REST, HEADER]),
     StreamCall::Phase(Phase::Waiting),
     StreamCall::All(ONE_FRAME),
@@ -256,7 +256,7 @@ fn two_frames(rt: HostRuntime) {
 
 const FREE_OF_SIZE_ZERO: &[Part] = &[Part::Box(0, b"free", &[])];
 
-const BEGUN_ANEW: [StreamCall; 15] = [
+static BEGUN_ANEW: [StreamCall; 15] = [
     StreamCall::Feed(&[FREE_OF_SIZE_ZERO]),
     StreamCall::Look(
         0,
@@ -285,7 +285,7 @@ fn begun_anew(rt: HostRuntime) {
 
 const ZEROS: &[Part] = &[Part::Bytes(&[0; 7])];
 
-const OFFERS: [StreamCall; 7] = [
+static OFFERS: [StreamCall; 7] = [
     StreamCall::Decline(&[ZEROS]),
     StreamCall::Len(0),
     StreamCall::Held(0),
@@ -301,7 +301,7 @@ fn offers(rt: HostRuntime) {
     play(&rt, Container::Adts, &OFFERS);
 }
 
-const SHARED_FRAMES: [StreamCall; 2] = [
+static SHARED_FRAMES: [StreamCall; 2] = [
     StreamCall::Share(&[HEADER, REST, HEADER, REST]),
     StreamCall::All(&[SOUND, FRAME, Item::SegmentEnd, SECOND, Item::SegmentEnd]),
 ];
@@ -357,7 +357,7 @@ fn payloads_by(
 
 /// A text, its length, by how many bytes it is appended, and where the payloads of its coded frames begin, which stand
 /// up to its end.
-const PAYLOADS: [(Container, Text, usize, &[usize], usize); 2] = [
+static PAYLOADS: [(Container, Text, usize, &[usize], usize); 2] = [
     (Container::Mp4, &[INIT, MOOF, MDAT], 751, &[1, 7, 751], 739),
     (
         Container::Adts,

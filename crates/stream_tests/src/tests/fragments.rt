@@ -145,7 +145,7 @@ fn expect_slots(rt: &(impl Abort + AllocGlobal), cases: &[Case]) -> Result<(), F
     Ok(())
 }
 
-const ONE_TRACK: [Case; 4] = [
+static ONE_TRACK: [Case; 4] = [
     (
         "three frames",
         (Kind::Video, 90000, 0),
@@ -216,7 +216,7 @@ fn too_many_tracks(alloc: Global, media: TrackInfo) -> Result<Presentation, Fail
     })
 }
 
-const OF_NO_PRESENTATION: [Wanted; 3] = [
+static OF_NO_PRESENTATION: [Wanted; 3] = [
     (1, 0, 0, 4704000000, true, 144, 148),
     (1, 4704000000, 4704000000, 4704000000, false, 148, 152),
     (1, 9408000000, 9408000000, 4704000000, false, 152, 156),
@@ -233,7 +233,7 @@ fn frames_of_no_presentation(rt: HostRuntime) -> Result<(), Fail> {
     Ok(())
 }
 
-const BEHIND_AN_EMPTY_EDIT: [Wanted; 3] = [
+static BEHIND_AN_EMPTY_EDIT: [Wanted; 3] = [
     (1, 70560000000, 70560000000, 4704000000, true, 144, 148),
     (1, 75264000000, 75264000000, 4704000000, false, 148, 152),
     (1, 79968000000, 79968000000, 4704000000, false, 152, 156),
@@ -252,7 +252,7 @@ fn frames_behind_an_empty_edit(rt: HostRuntime) -> Result<(), Fail> {
     Ok(())
 }
 
-const ANOTHER_ORDER: [Case; 3] = [
+static ANOTHER_ORDER: [Case; 3] = [
     (
         "reordered frames",
         (Kind::Video, 1000, 0),
@@ -291,7 +291,7 @@ fn frames_in_another_order(rt: HostRuntime) -> Result<(), Fail> {
     expect_slots(&rt, &ANOTHER_ORDER)
 }
 
-const AUDIO: [Case; 3] = [
+static AUDIO: [Case; 3] = [
     (
         "two sync frames",
         (Kind::Audio, 48000, 0),
@@ -333,7 +333,7 @@ fn frames_of_audio_and_of_two_tracks(rt: HostRuntime) -> Result<(), Fail> {
 }
 
 /// At the scale 1000 a unit is 141120000 ticks.
-const FLAGS_OFFSETS_AND_PLACES: [Case; 4] = [
+static FLAGS_OFFSETS_AND_PLACES: [Case; 4] = [
     (
         "unsigned offsets",
         (Kind::Video, 1000, 0),

@@ -75,7 +75,7 @@ fn gives(rt: &(impl Abort + AllocGlobal), bytes: &[u8], cut: usize, wanted: &[It
     items.as_slice() == wanted
 }
 
-const THREE: [Item; 5] = [
+static THREE: [Item; 5] = [
     Item::Init(24),
     Item::Frame(739, 1, 0, 4, true),
     Item::Frame(743, 1, 4_704_000_000, 4, false),
@@ -96,7 +96,7 @@ fn every_cut_gives_the_same(rt: HostRuntime) {
 /// A text, its length, where it is cut, and its items.
 type Row = (Text, usize, usize, &'static [Item]);
 
-const FILES: [Row; 3] = [
+static FILES: [Row; 3] = [
     // boxes before a movie fragment are passed over
     (
         &[
@@ -185,7 +185,7 @@ fn files(rt: HostRuntime) {
 
 /// What is known of the first bytes of a file once their items were taken: up to which length, the phase,
 /// where the bytes begin that are held, if there are any, and the number of frames.
-const CUT_OFF_AT: [(usize, Phase, usize, usize); 8] = [
+static CUT_OFF_AT: [(usize, Phase, usize, usize); 8] = [
     (7, Phase::Waiting, 0, 0),
     (24, Phase::InInit, 1000, 0),
     (594, Phase::InInit, 24, 0),
@@ -264,7 +264,7 @@ const CUT_OFF: &[Part] = &[
     Part::Box(12, b"mdat", &[0]),
 ];
 
-const HOSTILE: [FaultRow; 12] = [
+static HOSTILE: [FaultRow; 12] = [
     (
         &[&[Part::Box(7, b"free", &[])]],
         Some((0, StreamFault::BoxSize)),
@@ -308,7 +308,7 @@ const HOSTILE: [FaultRow; 12] = [
 
 /// A movie box and a movie fragment box of the greatest size are waited for, and one byte more is too much. A box
 /// that is out of place is that first, whatever its size.
-const GREATEST: [FaultRow; 7] = [
+static GREATEST: [FaultRow; 7] = [
     (&[FTYP, &[Part::Box(0x0100_0000, b"moov", &[])]], None),
     (&[INIT, &[Part::Box(0x0100_0000, b"moof", &[])]], None),
     (
@@ -334,7 +334,7 @@ const GREATEST: [FaultRow; 7] = [
 ];
 
 /// Behind a moof of 136 bytes a box may end `2^27` bytes after the first byte of the moof, and no later.
-const LONGEST: [FaultRow; 7] = [
+static LONGEST: [FaultRow; 7] = [
     (&[INIT, MOOF, &[Part::Box(0x07FF_FF78, b"free", &[])]], None),
     (
         &[INIT, MOOF, &[Part::Box(0x07FF_FF79, b"free", &[])]],
@@ -383,7 +383,7 @@ const BEFORE_THE_RUN: &[Part] = &[
 ];
 
 /// Runs whose data begin before the moof, and inside it.
-const PLACES: [FaultRow; 2] = [
+static PLACES: [FaultRow; 2] = [
     (
         &[
             INIT,

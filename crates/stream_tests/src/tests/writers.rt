@@ -33,7 +33,7 @@ fn writes_a_video_track(rt: HostRuntime) {
 
 /// Rates, and the digest of a file of one audio track. The rate of a sample entry has 16 bits before the point, so a
 /// higher one is left out.
-const RATES: [(u32, u128); 3] = [
+static RATES: [(u32, u128); 3] = [
     (48_000, 0x56676cd9_8bdb6f55_158ec75a_69b192b4),
     (65_535, 0xe8355856_6948a178_4883eb41_65fe0539),
     (65_536, 0x278978c8_8b109415_e568c482_9575b5f2),
@@ -145,7 +145,7 @@ fn writes_segments(rt: HostRuntime) {
 }
 
 /// Numbers of segments, and the length and the digest of the file.
-const FILES: [(u32, usize, u128); 3] = [
+static FILES: [(u32, usize, u128); 3] = [
     (1, 1756, 0x365253f0_4f233b13_e10f8ab6_64752e96),
     (2, 2922, 0x05bef320_9c74aaea_69acc034_4cd461e2),
     (1000, 1176595, 0x521dab55_44d28ff6_299af885_e71320ba),

@@ -155,7 +155,7 @@ pub(super) const BASES: &[Part] = &[
 ];
 
 /// A run of `2^20` samples without fields.
-pub(super) const MOST_SAMPLES: &[Part] = &[
+pub(super) static MOST_SAMPLES: &[Part] = &[
     Part::Box(84, b"moof", &[]),
     Part::Box(16, b"mfhd", &[0, 1]),
     Part::Box(60, b"traf", &[]),
@@ -175,7 +175,7 @@ pub(super) const EMPTY_RUN_BEFORE: &[Part] = &[
 ];
 
 /// Movie fragments and their first fault, in the order of reading; many have another fault that would come later.
-pub(super) const FAULTS: [(&[Part], MoofFault); 20] = [
+pub(super) static FAULTS: [(&[Part], MoofFault); 20] = [
     (&[Part::Box(12, b"moof", &[0])], MoofFault::Size),
     (
         &[
