@@ -1,6 +1,6 @@
 //! Coded frames in a plain store, worked by hand: of 100 ms and 4 bytes, and how long any frame lasts.
 
-ghost use Rattle.std.specs.Prelude.{◌≡◌, ◌≤◌, ◌+ℤ◌, pos, ◌≤ℤ◌, length, IfOk, IfSome};
+ghost use Rattle.std.specs.Prelude.{◌≡◌, ◌+ℤ◌, pos, ◌≤ℤ◌, length};
 ghost use Rattle.mse_base.specs.Time.{IsTick};
 
 use super::rows::not_negative;
