@@ -157,7 +157,7 @@ fn two_buffers(alloc: Global) -> Result<AllBuffersScene, OutOfMemory> {
 }
 
 /// Buffers whose work is done, in how many steps, and then whether all are initialized and whether each is updating.
-const DRAINS: [(u32, usize, bool, (bool, bool)); 4] = [
+static DRAINS: [(u32, usize, bool, (bool, bool)); 4] = [
     // an initialization segment, each frame with the end of its segment, the end of the append
     (0, 8, false, (false, true)),
     (1, 12, true, (false, false)),
@@ -185,7 +185,7 @@ fn work_of_two_buffers(rt: HostRuntime) -> Result<(), Fail> {
 }
 
 /// Active buffers, whether the source is ended, and the frames of the element's range.
-const ELEMENT_RANGES: [(&[u32], bool, u8); 5] = [
+static ELEMENT_RANGES: [(&[u32], bool, u8); 5] = [
     (&[0, 1], false, 3),
     (&[1, 0], true, 5),
     (&[1], false, 5),
@@ -194,7 +194,7 @@ const ELEMENT_RANGES: [(&[u32], bool, u8); 5] = [
 ];
 
 /// Active buffers, behind how many frames, whether the source is ended, and the frames of the range there.
-const ELEMENT_SPANS: [(&[u32], u8, bool, u8); 4] = [
+static ELEMENT_SPANS: [(&[u32], u8, bool, u8); 4] = [
     (&[0, 1], 3, false, 3),
     (&[0, 1], 4, false, 0),
     (&[0, 1], 4, true, 5),
@@ -322,7 +322,7 @@ fn run(
     Ok(())
 }
 
-const CALLS_BEHIND_A_REMOVAL: [Row; 15] = [
+static CALLS_BEHIND_A_REMOVAL: [Row; 15] = [
     (1, BuffersCall::Remove, Some(Name::NotFound)),
     (2, BuffersCall::Remove, Some(Name::NoSuchBuffer)),
     (
@@ -398,7 +398,7 @@ fn a_removed_buffer(rt: HostRuntime) -> Result<(), Fail> {
     Ok(())
 }
 
-const CALLS_ON_A_BUFFER: [Row; 9] = [
+static CALLS_ON_A_BUFFER: [Row; 9] = [
     (0, BuffersCall::Mode(Mode::Segments), Some(Name::TypeError)),
     (0, BuffersCall::WindowEnd(9), None),
     (0, BuffersCall::WindowStart(9), Some(Name::TypeError)),
@@ -422,7 +422,7 @@ fn calls_on_buffers_that_are_there(rt: HostRuntime) -> Result<(), Fail> {
 }
 
 /// Calls that a buffer that is there does not refuse.
-const ALLOWED: [BuffersCall; 8] = [
+static ALLOWED: [BuffersCall; 8] = [
     BuffersCall::Mode(Mode::Sequence),
     BuffersCall::Offset(0),
     BuffersCall::WindowStart(1),
@@ -434,14 +434,14 @@ const ALLOWED: [BuffersCall; 8] = [
 ];
 
 /// A buffer that is there, one that was removed and one that was never made, and how each refuses such calls.
-const NUMBERS: [(u32, Option<Name>); 3] = [
+static NUMBERS: [(u32, Option<Name>); 3] = [
     (0, None),
     (1, Some(Name::InvalidState)),
     (2, Some(Name::NoSuchBuffer)),
 ];
 
 /// Other calls where the buffer of number 1 was removed.
-const OTHERS: [Row; 7] = [
+static OTHERS: [Row; 7] = [
     (0, BuffersCall::NoOffset, Some(Name::TypeError)),
     (0, BuffersCall::AppendNothing, Some(Name::NoSuchBytes)),
     (1, BuffersCall::AppendNothing, Some(Name::NoSuchBytes)),

@@ -87,7 +87,7 @@ fn play(rt: &(impl Abort + AllocGlobal), acts: &[SourceCall]) {
 }
 
 /// A closed source, an open one and an ended one.
-const ENDS: [SourceCall; 14] = [
+static ENDS: [SourceCall; 14] = [
     SourceCall::Ready(Ready::Closed),
     SourceCall::EndRefusal(false, WRONG_STATE),
     SourceCall::Reopen(false),
@@ -105,7 +105,7 @@ const ENDS: [SourceCall; 14] = [
 ];
 
 /// The duration at a plain end is the highest end, or 0.
-const HIGHEST_ENDS: [SourceCall; 5] = [
+static HIGHEST_ENDS: [SourceCall; 5] = [
     SourceCall::Attach(None),
     SourceCall::End(EndKind::Plain, Some(7), Comes::To(Duration::At(7))),
     SourceCall::End(EndKind::Plain, Some(7), Comes::Same),
@@ -146,7 +146,7 @@ fn activate(rt: &impl Abort, source: &mut Source, k: u32) -> Result<(), Fail> {
 }
 
 /// Buffers that are removed, and what comes of it.
-const REMOVALS: [(u32, Removed); 3] = [
+static REMOVALS: [(u32, Removed); 3] = [
     (3, Removed::Gone { active: true }),
     (2, Removed::Gone { active: false }),
     (3, Removed::Refused(Name::NotFound)),
@@ -198,20 +198,20 @@ const WRONG_TYPE: Comes = Comes::Refused(Name::TypeError);
 const NOT_NOW: Comes = Comes::Refused(Name::InvalidState);
 
 /// Durations that a closed source is to get.
-const OF_A_CLOSED_SOURCE: [(Duration, Comes); 3] = [
+static OF_A_CLOSED_SOURCE: [(Duration, Comes); 3] = [
     (Duration::Nan, WRONG_TYPE),
     (Duration::At(-1), WRONG_TYPE),
     (Duration::At(0), NOT_NOW),
 ];
 
 /// Durations that an open source is to get while a buffer is updating.
-const WHILE_UPDATING: [(Duration, Comes); 2] = [
+static WHILE_UPDATING: [(Duration, Comes); 2] = [
     (Duration::At(-1), WRONG_TYPE),
     (Duration::At(0), NOT_NOW),
 ];
 
 /// By which times frames start and end, and the duration that an open source is to get.
-const OF_AN_OPEN_SOURCE: [(Option<(i128, i128)>, Duration, Comes); 6] = [
+static OF_AN_OPEN_SOURCE: [(Option<(i128, i128)>, Duration, Comes); 6] = [
     (None, Duration::Infinite, Comes::To(Duration::Infinite)),
     (Some((10, 15)), Duration::At(9), NOT_NOW),
     (
@@ -288,7 +288,7 @@ fn expect_seekable(rt: &impl Abort, source: &Source, rows: &[Row]) {
 }
 
 /// Live seekable ranges, and the refusals of an open source.
-const LIVE: [(i128, i128, Option<Name>); 3] = [
+static LIVE: [(i128, i128, Option<Name>); 3] = [
     (10, 5, Some(Name::TypeError)),
     (-1, 5, Some(Name::TypeError)),
     (5, 6, None),
