@@ -357,7 +357,7 @@ struct Scene {
 const HEAD: &str = "\
     quota = 1\n\
     blobs = [\"hex fff14c80015ffc000000\", \"hex 00000000000000\", \"hex fff14c80015ffc000000fff14c80015ffc000000\",\n\
-        \"file made.mp4\", \"hex 0000000766726565\"]\n\
+        \"file made.mp4\", \"hex 00000007736b6970\"]\n\
     steps = [";
 
 /// Puts the lines behind the head of a script, and ends it.

@@ -9,17 +9,6 @@ use std::process::Abort;
 /// A frame of ten bytes, with 44100 samples in a second and two channels.
 const FRAME: [u8; 10] = [0xff, 0xf1, 0x50, 0x80, 0x01, 0x5f, 0xfc, 0, 0, 0];
 
-/// Two of these.
-const FRAMES: [u8; 20] = [
-    0xff, 0xf1, 0x50, 0x80, 0x01, 0x5f, 0xfc, 0, 0, 0, 0xff, 0xf1, 0x50, 0x80, 0x01, 0x5f, 0xfc, 0,
-    0, 0,
-];
-
-/// An ID3v2 tag with two bytes behind its header, and then the frame.
-const TAGGED: [u8; 22] = [
-    b'I', b'D', b'3', 4, 0, 0, 0, 0, 0, 2, 0, 0, 0xff, 0xf1, 0x50, 0x80, 0x01, 0x5f, 0xfc, 0, 0, 0,
-];
-
 /// One with 48000.
 const FASTER: [u8; 10] = [0xff, 0xf1, 0x4c, 0x80, 0x01, 0x5f, 0xfc, 0, 0, 0];
 
@@ -124,14 +113,16 @@ const BEHIND_TAG: [Item; 3] = [
     Item::SegmentEnd,
 ];
 
-/// Bytes that are cut anywhere give the items of the whole: two frames, and a tag with a frame.
-const WHOLES: [(&[u8], &[Item]); 2] = [(&FRAMES, &TWO), (&TAGGED, &BEHIND_TAG)];
+/// Parts of a string that may be cut anywhere, and the items of the whole: of two frames, and of a tag with a frame.
+static WHOLES: [(&[&[u8]], &[Item]); 2] =
+    [(&[&FRAME, &FRAME], &TWO), (&[&TAG, &[0, 0], &FRAME], &BEHIND_TAG)];
 
 #[test]
 fn every_cut_gives_the_same(rt: HostRuntime) {
-    for (bytes, wanted) in &WHOLES {
+    for (parts, wanted) in &WHOLES {
+        let bytes = parts.concat(rt.alloc()).expect(&rt, "memory");
         for cut in 0..bytes.len() + 1 {
-            let (first, second) = bytes.split_at(cut);
+            let (first, second) = bytes.as_slice().split_at(cut);
             expect_at(&rt, cut, give(&rt, first, second, wanted));
         }
     }
@@ -215,8 +206,10 @@ fn state_behind(rt: &(impl Abort + AllocGlobal), bytes: &[u8]) -> (bool, usize, 
 /// What is known of the first bytes of two frames.
 #[test]
 fn truncated_frames(rt: HostRuntime) {
-    for cut in 0..21 {
-        let (first, _) = FRAMES.as_slice().split_at(cut);
+    let frames = [FRAME.as_slice(), FRAME.as_slice()].concat(rt.alloc()).expect(&rt, "memory");
+    expect(&rt, "two frames", frames.len() == 20);
+    for cut in 0..frames.len() + 1 {
+        let (first, _) = frames.as_slice().split_at(cut);
         let found = state_behind(&rt, first);
         expect_at(&rt, cut, found == (cut % 10 < 7, cut % 10, 0));
     }
