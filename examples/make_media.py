@@ -3,8 +3,8 @@
 
     make_media.py [FOLDER]
 
-FOLDER is that one where it is left out. Boxes are made by make.py; a file with a fault is one without, with a box
-changed. The other files of that folder are kept as they are.
+FOLDER is that one where it is left out. Boxes are made by make.py; a file with a fault is mostly one without, with a
+box changed. The other files of that folder are kept as they are.
 """
 import os
 import struct
@@ -122,6 +122,16 @@ def tables(change):
 
 def set_box(payload, name, value):
     return changed(payload, name, lambda kind, old: box(kind, value))
+
+
+def equal_samples(size, count):
+    """The classic file with so many samples of one size, all in its one chunk. Only the tables tell of them."""
+    def change(stbl):
+        for name, value in (("stts", words(0, 1, count, 1)), ("stsc", words(0, 1, 1, count, 1)),
+                            ("stsz", words(0, size, count))):
+            stbl = set_box(stbl, name, value)
+        return stbl
+    return tables(change)
 
 
 AUDIO_INIT = FTYP + moov(Track(1, b"soun", 1000, b"mp4a"))
@@ -272,7 +282,11 @@ MEDIA_FILES = {
     "classic-short-stsz.mp4": tables(lambda stbl: set_box(stbl, "stsz", words(0, 4, 3)[:8])),
     "classic-zero-scale.mp4": patched(CLASSIC, "moov/trak/mdia/mdhd", 12, u32(0)),
     "classic-large-sample.mp4": tables(lambda stbl: set_box(stbl, "stsz", words(0, (1 << 26) + 1, 3))),
-    "classic-many-samples.mp4": tables(lambda stbl: set_box(stbl, "stsz", words(0, 1, (1 << 22) + 1))),
+    "classic-many-samples.mp4": equal_samples(1, (1 << 22) + 1),
+    "classic-2-22-samples.mp4": equal_samples(1, 1 << 22),
+    "classic-many-bytes.mp4": equal_samples(1 << 26, 17),
+    "classic-2-30-bytes.mp4": equal_samples(1 << 26, 16),
+    "classic-many-samples-in-one-table.mp4": tables(lambda stbl: set_box(stbl, "stsz", words(0, 1, (1 << 22) + 1))),
     "classic-text.mp4": patched(CLASSIC, "moov/trak/mdia/hdlr", 8, b"text"),
     "classic-number-0.mp4": patched(CLASSIC, "moov/trak/tkhd", 12, u32(0)),
     "classic-two-edits.mp4": changed(CLASSIC, "moov/trak/tkhd", lambda kind, payload: box(kind, payload) + box(
@@ -280,6 +294,7 @@ MEDIA_FILES = {
 
     # ADTS frames of ten bytes, with 1,024 samples at 44,100 Hz
     "frames.aac": 2 * bytes.fromhex("fff15080015ffc000000"),
+    "tag-between.aac": (b"TAG" + bytes(125)).join(2 * [bytes.fromhex("fff15080015ffc000000")]),
     "tagged.aac": b"ID3" + bytes([4, 0, 0, 0, 0, 0, 2, 0, 0]) + 2 * bytes.fromhex("fff15080015ffc000000"),
 }
 
