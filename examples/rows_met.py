@@ -23,10 +23,11 @@ ELSEWHERE = {
 }
 # The call of a rule of MACHINE.md.
 CALLS = {
-    "Mode": "mode", "Timestamp offset": "offset", "Append window start": "windowstart", "Append window end": "windowend",
-    "Remove": "remove", "Append": "append", "Abort": "abort", "Change of type": "changetype", "Attach": "attach",
-    "Add a source buffer": "add", "Remove a source buffer": "removebuffer", "Duration": "duration",
-    "End of stream": "endofstream", "Live seekable range": "live",
+    "Mode": "mode", "Timestamp offset": "offset", "Append window start": "windowstart",
+    "Append window end": "windowend", "Remove": "remove", "Append": "append", "Abort": "abort",
+    "Change of type": "changetype", "Attach": "attach", "Add a source buffer": "add",
+    "Remove a source buffer": "removebuffer", "Duration": "duration", "End of stream": "endofstream",
+    "Live seekable range": "live",
 }
 NEVER_REFUSED = {"state", "pause", "elementbuffered", "seekable"}
 
@@ -218,8 +219,8 @@ def main():
     named = [(row, row in headings) for row in named_rows(found)]
     steps = [(f"MACHINE.md: {step}", step in headings) for step in machine_steps()]
     rows = [*statuses(found, listed), *faults(found, printed), *feeds(found, printed), *answers(found, printed),
-            *calls(found, printed), *refusals(printed), *steps_and_keys(found, scripts), *events(found, printed, scripts),
-            *script_faults(found, printed), *named, *steps]
+            *calls(found, printed), *refusals(printed), *steps_and_keys(found, scripts),
+            *events(found, printed, scripts), *script_faults(found, printed), *named, *steps]
     lacking = [name for name, met in rows if not met and name not in ELSEWHERE]
     lacking += [f"{name}, which is no row or is met" for name in ELSEWHERE if dict(rows).get(name, True)]
     print("\n".join([*lacking, f"{len(rows)} rows and steps, {len(lacking)} without a case"]))
