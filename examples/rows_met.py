@@ -12,7 +12,7 @@ import sys
 TOP = os.path.join(os.path.dirname(os.path.abspath(__file__)), "..")
 DATA = os.path.join(TOP, "crates", "case_runs", "data")
 PATTERNS = {"K": r"\d+", "B": r"\d+", "F": r"\d+", "L": r"\d+", "T": r"\S+", "TYPE": ".+"}
-# What no case can meet, and why.
+# What no case meets, and why.
 ELSEWHERE = {
     "status 5": "bench/refused.py refuses memory",
     "Faults: fault 18 `Counts`": "after 2^62 frames or bytes",
@@ -224,7 +224,7 @@ def main():
     lacking = [name for name, met in rows if not met and name not in ELSEWHERE]
     lacking += [f"{name}, which is no row or is met" for name in ELSEWHERE if dict(rows).get(name, True)]
     print("\n".join([*lacking, f"{len(rows)} rows and steps, {len(lacking)} without a case"]))
-    print("\n".join(f"no case can meet {name}: {why}" for name, why in ELSEWHERE.items()))
+    print("\n".join(f"no case meets {name}: {why}" for name, why in ELSEWHERE.items()))
     sys.exit(1 if "--strict" in sys.argv and lacking else 0)
 
 
