@@ -13,17 +13,25 @@ The initialization segment is that of crates/case_runs/data/plain.mp4: one video
 more tracks, they are like it. A media
 segment, or a chunk of a classic file, has at most 100 samples of 3000 units; each tenth sample is a random access point.
 """
+import importlib.util
 import os
 import random
 import struct
 import sys
 
-from case_files import maker
-
+HERE = os.path.dirname(os.path.abspath(__file__))
 UNITS = 3000
 PER_CHUNK = 100
 # the order of presentation of a group of ten samples that are stored in order of decoding: I P B B P B B P B B
 SHOWN = [0, 3, 1, 2, 6, 4, 5, 9, 7, 8]
+
+
+def maker():
+    """The module examples/make.py."""
+    spec = importlib.util.spec_from_file_location("examples_make", os.path.join(HERE, "..", "examples", "make.py"))
+    module = importlib.util.module_from_spec(spec)
+    spec.loader.exec_module(module)
+    return module
 
 
 def box(kind, payload):

@@ -19,22 +19,22 @@ import sys
 import tempfile
 import time
 
-import case_files
-
 HERE = os.path.dirname(os.path.abspath(__file__))
 CRATES = os.path.join(HERE, "..", "crates")
-EXAMPLES = os.path.join(HERE, "..", "crates", "case_runs", "data")
-CASES = os.path.join(HERE, "cases")
+DATA = os.path.join(CRATES, "case_runs", "data")
 WORDS, MEMORY = 1, 5
 RUNS = [
-    ["ranges", "two-tracks.mp4"],
+    ["ranges", "media/two-tracks.mp4"],
     ["ranges", "classic.m4a"],
     ["ranges", "nofile"],
     ["pieces", "100", "plain.mp4"],
     ["make", "2"],
     ["remux", "classic.m4a"],
     ["feed", "1/1", "audio.mp4"],
-    *(["play", name] for folder in [CASES, EXAMPLES] for name in sorted(os.listdir(folder)) if name.endswith(".toml")),
+    ["play", "rules/more-than-drain-calls.toml"],
+    ["play", "mode/in-a-segment-is-refused-and-opens-the-source.toml"],
+    ["play", "work/of-two-buffers-in-turn.toml"],
+    *(["play", name] for name in sorted(os.listdir(DATA)) if name.endswith(".toml")),
 ]
 TESTS = [
     ("engine_tests", "tests::memory::each_step_again"),
@@ -51,9 +51,7 @@ def main():
     tests = dict(word.split("=", 1) for word in given.tests)
     begin = time.monotonic()
     with tempfile.TemporaryDirectory() as room:
-        for folder in [EXAMPLES, CASES]:
-            shutil.copytree(folder, room, dirs_exist_ok=True)
-        case_files.write(room)
+        shutil.copytree(DATA, room, dirs_exist_ok=True)
         subprocess.run(["cc", "-O2", "-shared", "-fPIC", "-o", f"{room}/refuse.so", f"{HERE}/refuse.c"], check=True)
         bad = 0
         for run in RUNS:

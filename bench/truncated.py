@@ -21,12 +21,10 @@ import tempfile
 import time
 from concurrent.futures import ThreadPoolExecutor
 
-from case_files import case_files
-
 HERE = os.path.dirname(os.path.abspath(__file__))
 EXAMPLES = os.path.join(HERE, "..", "crates", "case_runs", "data")
 TABLES = os.path.join(EXAMPLES, "fronts")
-SMALL = ["two-tracks.mp4", "tagged.aac", "gap.mp4", "groups.mp4", "late.mp4"]
+SMALL = ["media/two-tracks.mp4", "media/tagged.aac", "gap.mp4", "groups.mp4", "late.mp4"]
 FILES = [*SMALL, "plain.mp4", "classic.mp4", "cut.mp4", "classic.m4a", "audio.mp4"]
 SECOND = 141120000000
 MEDIA = 9
@@ -51,10 +49,8 @@ def main():
 
 
 def content(file):
-    """The bytes of a file: one of case_files.py, of crates/case_runs/data, or of the current folder."""
-    made, example = case_files(), os.path.join(EXAMPLES, file)
-    if file in made:
-        return made[file]
+    """The bytes of a file of crates/case_runs/data, or of the current folder."""
+    example = os.path.join(EXAMPLES, file)
     with open(example if os.path.exists(example) else file, "rb") as opened:
         return opened.read()
 
@@ -117,7 +113,7 @@ def rows(file):
 
 def store():
     for file in [*SMALL, "plain.mp4"]:
-        with open(os.path.join(TABLES, file.partition(".")[0] + ".txt"), "w") as out:
+        with open(os.path.join(TABLES, os.path.basename(file).partition(".")[0] + ".txt"), "w") as out:
             for first, last, base, head, tail in rows(file):
                 out.write(f"bytes {first} {last} {base or 0}\n{head}{'0' if base is None else '*'}{tail}")
 

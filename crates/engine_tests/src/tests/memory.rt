@@ -17,7 +17,7 @@ use track_store::ListStore;
 /// Each call, with effect, and a fault at the end. The file has an initialization segment of 595 bytes, and one of 30
 /// frames in a second, of which the first ends at 1179.
 const SCRIPT: &str = "\
-    blobs = [\"file made.mp4\", \"hex fff14c80015ffc000000\", \"hex 00000007736b6970\"]\n\
+    blobs = [\"file made.mp4\", \"hex fff14c80015ffc000000fff14c80015ffc000000\", \"hex 00000007736b6970\"]\n\
     steps = [\"attach\", \"live 0 1/1\", \"clearlive\", \"add video/mp4\", \"add audio/aac\",\n\
         \"duration 10/1\", \"seekable\", \"windowstart 0 0\", \"windowend 0 9/1\", \"append 0 0 0 1185\",\n\
         \"work 0\", \"fire\", \"append 1 1\", \"work 1\", \"abort 0\", \"drain\", \"mode 0 sequence\",\n\
