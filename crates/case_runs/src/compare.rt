@@ -1,8 +1,9 @@
 //! What was printed beside what was wanted.
 
-ghost use Rattle.std.specs.Prelude.{◌≡◌, ◌↔◌, None, IfOk};
+ghost use Rattle.std.specs.Prelude.{◌≡◌, ◌↔◌, None, IfOk, map, string_bytes};
+ghost use Rattle.case_runs.specs.Runs.{Prints};
 
-use crate::printed::Printed;
+use crate::printed::{Printed, Setting, run_words};
 use std::alloc::{AllocError, Global};
 
 /// Says that the line of this number is another than the one that is wanted.
@@ -45,17 +46,35 @@ pub fn difference(
     Ok(Some(line))
 }
 
-/// Where a run differs from a status and a text; `None` where both are as wanted.
+/// Where a run differs from a status and a text; `None` exactly where both are as wanted.
 pub fn difference_of_run(
     alloc: Global,
     status: u8,
     text: &[u8],
     printed: &Printed,
-) -> Result<Option<String>, AllocError> {
+) -> Result<Option<String>, AllocError>
+    ensures same { IfOk result (λ found. (found ≡ None)
+        ↔ ((printed.now.status ≡ status) × (printed.now.sink.written ≡ text.now))) }
+{
     if printed.status != status {
         let found = printed.status;
         let text = format!(in alloc; "the status is {found} and not {status}")?;
         return Ok(Some(text));
     }
     difference(alloc, text, printed.sink.written())
+}
+
+/// Runs the words: where they differ from a status and a text, and `None` only where both are as wanted.
+pub fn try_words(
+    alloc: Global,
+    words: &[String],
+    setting: &Setting<'_>,
+    status: u8,
+    text: &[u8],
+) -> anyhow::Result<Option<String>>
+    ensures { IfOk result (λ found. found ≡ None
+        → Prints setting.now (map string_bytes words.now) status text.now) }
+{
+    let printed = run_words(alloc, words, setting)?;
+    Ok(difference_of_run(alloc, status, text, &printed)?)
 }

@@ -1,7 +1,10 @@
 //! Runs in which a put or a load fails.
 
-use crate::compare::difference_of_run;
-use crate::files::{CaseFile, bytes_of, text_of};
+ghost use Rattle.std.specs.Prelude.{◌≡◌, ◌++◌, ◌∷◌, [], None, IfOk, codes, map, string_bytes, take};
+ghost use Rattle.case_runs.specs.Runs.{Prints};
+
+use crate::compare::try_words;
+use crate::files::{bytes_of, text_of};
 use crate::list::Case;
 use crate::printed::{Setting, run_words};
 use crate::tables::read_number;
@@ -14,7 +17,9 @@ const WRITE: u8 = 4;
 const READ: u8 = 3;
 
 /// The first bytes, or all where there are not so many.
-fn front(bytes: &[u8], count: usize) -> &[u8] {
+fn front(bytes: &[u8], count: usize) -> &[u8]
+    ensures { result.now ≡ take count bytes.now }
+{
     match bytes.get(..count) {
         Some(part) => part,
         None => bytes,
@@ -24,8 +29,8 @@ fn front(bytes: &[u8], count: usize) -> &[u8] {
 /// The put of this number, whose bytes are from `start` to `end` of the text, fails behind each number of its bytes.
 fn try_put(
     alloc: Global,
-    files: &[CaseFile],
     case: &Case<'_>,
+    setting: &Setting<'_>,
     text: &[u8],
     put: (u64, usize, usize),
 ) -> Result<Option<String>> {
@@ -34,11 +39,10 @@ fn try_put(
         let count = written.saturating_sub(start) as u64;
         let setting = Setting {
             failing_put: (number, count),
-            ..Setting::plain(files)
+            ..*setting
         };
-        let printed = run_words(alloc, &case.words, &setting)?;
         let wanted = front(text, written);
-        if let Some(found) = difference_of_run(alloc, WRITE, wanted, &printed)? {
+        if let Some(found) = try_words(alloc, &case.words, &setting, WRITE, wanted)? {
             let text = format!(in alloc; "put {number} fails behind {count} bytes: {found}")?;
             return Ok(Some(text));
         }
@@ -69,11 +73,11 @@ fn read_ends(alloc: Global, list: &str) -> Result<Vec<usize>> {
 /// Each put fails in turn; where the one behind them does, nothing does.
 pub fn try_puts(
     alloc: Global,
-    files: &[CaseFile],
     case: &Case<'_>,
+    setting: &Setting<'_>,
     ends: &str,
 ) -> Result<Option<String>> {
-    let text = bytes_of(files, case.text)?;
+    let text = bytes_of(setting.files, case.text)?;
     let ends = if ends.is_empty() {
         ends_of_lines(alloc, text)?
     } else {
@@ -82,7 +86,7 @@ pub fn try_puts(
     let mut number = 1u64;
     let mut start = 0usize;
     for end in &ends {
-        if let Some(found) = try_put(alloc, files, case, text, (number, start, *end))? {
+        if let Some(found) = try_put(alloc, case, setting, text, (number, start, *end))? {
             return Ok(Some(found));
         }
         number = number.saturating_add(1);
@@ -90,10 +94,9 @@ pub fn try_puts(
     }
     let setting = Setting {
         failing_put: (number, 0),
-        ..Setting::plain(files)
+        ..*setting
     };
-    let printed = run_words(alloc, &case.words, &setting)?;
-    Ok(difference_of_run(alloc, case.status, text, &printed)?)
+    try_words(alloc, &case.words, &setting, case.status, text)
 }
 
 /// The load of a setting fails: its name is told. Where the put of that line fails too, nothing is written.
@@ -102,33 +105,42 @@ fn try_load(
     case: &Case<'_>,
     setting: &Setting<'_>,
     name: &str,
-) -> Result<Option<String>> {
+) -> Result<Option<String>>
+    ensures told { IfOk result (λ found. found ≡ None
+        → Prints setting.now (map string_bytes case.now.words.items) READ
+        (codes "error: read " ++ (name.now ++ 10 ∷ []))) }
+    ensures silent { IfOk result (λ found. found ≡ None
+        → Prints (record setting.now { failing_put = (1, 0) })
+        (map string_bytes case.now.words.items) WRITE []) }
+{
     let line = format!(in alloc; "error: read {name}\n")?;
-    let printed = run_words(alloc, &case.words, setting)?;
-    if let Some(found) = difference_of_run(alloc, READ, line.as_bytes(), &printed)? {
+    if let Some(found) = try_words(alloc, &case.words, setting, READ, line.as_bytes())? {
         return Ok(Some(found));
     }
     let setting = Setting {
         failing_put: (1, 0),
         ..*setting
     };
-    let printed = run_words(alloc, &case.words, &setting)?;
-    Ok(difference_of_run(alloc, WRITE, &[], &printed)?)
+    try_words(alloc, &case.words, &setting, WRITE, &[])
 }
 
 /// Each load fails in turn; where the one behind them does, nothing does.
-pub fn try_loads(alloc: Global, files: &[CaseFile], case: &Case<'_>) -> Result<Option<String>> {
-    let names = text_of(bytes_of(files, case.text)?)?;
-    let mut setting = Setting::plain(files);
+pub fn try_loads(alloc: Global, case: &Case<'_>, setting: &Setting<'_>) -> Result<Option<String>> {
+    let names = text_of(bytes_of(setting.files, case.text)?)?;
+    let whole = run_words(alloc, &case.words, setting)?;
+    let mut setting = *setting;
     for name in names.lines() {
         setting.failing_load = setting.failing_load.saturating_add(1);
         if let Some(found) = try_load(alloc, case, &setting, name)? {
             return Ok(Some(found));
         }
     }
-    let whole = run_words(alloc, &case.words, &Setting::plain(files))?;
     setting.failing_load = setting.failing_load.saturating_add(1);
-    let printed = run_words(alloc, &case.words, &setting)?;
-    let text = whole.sink.written();
-    Ok(difference_of_run(alloc, case.status, text, &printed)?)
+    try_words(
+        alloc,
+        &case.words,
+        &setting,
+        case.status,
+        whole.sink.written(),
+    )
 }

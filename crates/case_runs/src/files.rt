@@ -1,5 +1,10 @@
 //! The files of a folder in memory.
 
+ghost use Rattle.std.specs.Prelude.{◌≡◌, Some, None, IfOk, OnErr, option_map};
+ghost use Rattle.std.specs.Str.{IsUtf8};
+ghost use Rattle.mse_outside.specs.Memory.{table_of};
+ghost use Rattle.case_runs.specs.Given.{files_in};
+
 use anyhow::{Result, anyhow};
 use std::fs;
 
@@ -51,8 +56,10 @@ pub fn read_files(rt: &HostRuntime) -> Result<Vec<CaseFile>> {
     Ok(files)
 }
 
-/// The bytes of the file of this name, if there is one.
-pub fn find_bytes<'a>(files: &'a [CaseFile], name: &str) -> Option<&'a [u8]> {
+/// The bytes of the first file of this name, if there is one.
+pub fn find_bytes<'a>(files: &'a [CaseFile], name: &str) -> Option<&'a [u8]>
+    ensures { option_map (λ bytes. bytes.now) result ≡ table_of (files_in files.now) name.now }
+{
     for file in files {
         if file.name.as_str() == name {
             return Some(file.bytes.as_slice());
@@ -61,8 +68,12 @@ pub fn find_bytes<'a>(files: &'a [CaseFile], name: &str) -> Option<&'a [u8]> {
     None
 }
 
-/// The bytes of the file of this name.
-pub fn bytes_of<'a>(files: &'a [CaseFile], name: &str) -> Result<&'a [u8]> {
+/// The bytes of the first file of this name.
+pub fn bytes_of<'a>(files: &'a [CaseFile], name: &str) -> Result<&'a [u8]>
+    ensures bytes { IfOk result (λ bytes.
+        table_of (files_in files.now) name.now ≡ Some bytes.now) }
+    ensures no_file { OnErr result (table_of (files_in files.now) name.now ≡ None) }
+{
     match find_bytes(files, name) {
         Some(bytes) => Ok(bytes),
         None => Err(anyhow!("no file {name}")),
@@ -70,7 +81,10 @@ pub fn bytes_of<'a>(files: &'a [CaseFile], name: &str) -> Result<&'a [u8]> {
 }
 
 /// The text that these bytes are.
-pub fn text_of(bytes: &[u8]) -> Result<&str> {
+pub fn text_of(bytes: &[u8]) -> Result<&str>
+    ensures text { IfOk result (λ text. text.now ≡ bytes.now) }
+    ensures no_text { OnErr result (¬ (IsUtf8 bytes.now)) }
+{
     match str::from_utf8(bytes) {
         Ok(text) => Ok(text),
         Err(_) => Err(anyhow!("a list, a script or a table is no text")),

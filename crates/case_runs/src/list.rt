@@ -1,5 +1,7 @@
 //! A line of the list of cases.
 
+ghost use Rattle.std.specs.Prelude.{◌≡◌, ◌↔◌, Some, codes};
+
 use anyhow::{Result, anyhow};
 use std::alloc::{AllocError, Global};
 
@@ -35,7 +37,13 @@ pub struct Case<'a> {
     pub words: Vec<String>,
 }
 
-fn read_way(word: &str) -> Option<Way<'_>> {
+/// The way of a word.
+fn read_way(word: &str) -> Option<Way<'_>>
+    ensures run { (result ≡ Some Way.Run) ↔ (word.now ≡ codes "run") }
+    ensures indexed { (result ≡ Some Way.Indexed) ↔ (word.now ≡ codes "indexed") }
+    ensures loads { (result ≡ Some Way.Loads) ↔ (word.now ≡ codes "loads") }
+    ensures cut { (result ≡ Some Way.Cut) ↔ (word.now ≡ codes "cut") }
+{
     match word {
         "run" => Some(Way::Run),
         "indexed" => Some(Way::Indexed),

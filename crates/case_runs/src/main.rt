@@ -1,10 +1,15 @@
 //! Runs the cases of its folder: each line of `cases.txt` names the words of a run, its status, and the file with what it
 //! prints. A run gets the folder's files by a library in memory, and prints into a sink in memory; it is made over both
-//! stores of coded frames. For each case that differs a line is printed, with the first line that does, and in the end how
-//! many are as wanted.
+//! stores of coded frames. For each case that differs a line is printed, with the store and the first line that does, and
+//! in the end how many are as wanted.
 //!
-//! It stands on `mse_commands`, whose `run` is the program. `examples/README.md` says what a case is.
+//! It stands on `rule_run`. A run is one call of [`run_by_rules`](rule_run::run_by_rules), and so is the program
+//! (`mseplay`), which hands in the folder and standard output where a case hands in memory. `examples/README.md` says
+//! what a case is.
 #![tactic(auto)]
+
+ghost use Rattle.std.specs.Prelude.{◌≡◌, ◌≢◌, ◌↔◌, [], Some, IsTrue, if◌then◌else◌, slice_get};
+ghost use Rattle.mse_outside.specs.Count.{next_count};
 
 mod compare;
 mod failing;
@@ -31,6 +36,31 @@ struct Count {
     differing: u64,
 }
 
+impl Count {
+    /// The count after one more case.
+    fn after(self, differs: bool) -> Count
+        ensures tried { result.tried ≡ next_count self.tried }
+        ensures differing { result.differing
+            ≡ (if differs then next_count self.differing else self.differing) }
+    {
+        Count {
+            tried: self.tried.saturating_add(1),
+            differing: if differs {
+                self.differing.saturating_add(1)
+            } else {
+                self.differing
+            },
+        }
+    }
+}
+
+/// Whether a line of the list names a case.
+fn names_case(line: &str) -> bool
+    ensures { IsTrue result ↔ ((line.now ≢ []) × (slice_get line.now 0 ≢ Some 35)) }
+{
+    !line.is_empty() && !line.starts_with('#')
+}
+
 /// Tries the case of a line, and prints where it differs.
 fn try_line(
     rt: &HostRuntime,
@@ -39,9 +69,9 @@ fn try_line(
     count: &mut Count,
 ) -> anyhow::Result<()> {
     let case = read_case(rt.alloc(), line)?;
-    count.tried = count.tried.saturating_add(1);
-    if let Some(difference) = try_case(rt.alloc(), files, &case)? {
-        count.differing = count.differing.saturating_add(1);
+    let found = try_case(rt.alloc(), files, &case)?;
+    *count = count.after(found.is_some());
+    if let Some(difference) = found {
         println!(rt; "{line}: {difference}")?;
     }
     Ok(())
@@ -55,7 +85,7 @@ fn main(rt: HostRuntime) -> anyhow::Result<ExitCode> {
         differing: 0,
     };
     for line in list.lines() {
-        if !line.is_empty() && !line.starts_with('#') {
+        if names_case(line) {
             try_line(&rt, &files, line, &mut count)?;
         }
     }

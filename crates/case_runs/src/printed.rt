@@ -1,5 +1,8 @@
 //! A run, and what it prints.
 
+ghost use Rattle.std.specs.Prelude.{◌≡◌, IfOk, if◌then◌else◌, map, string_bytes};
+ghost use Rattle.case_runs.specs.Runs.{IsRunOf, library_of};
+
 use crate::files::CaseFile;
 use crate::library::CaseLibrary;
 use anyhow::anyhow;
@@ -19,6 +22,15 @@ pub enum Store {
     List,
 }
 
+impl Store {
+    pub fn name(self) -> &'static str {
+        match self {
+            Store::Index => "IndexStore",
+            Store::List => "ListStore",
+        }
+    }
+}
+
 /// What a run has to do with, beside the words.
 #[derive(Clone, Copy)]
 pub struct Setting<'a> {
@@ -36,10 +48,10 @@ pub struct Setting<'a> {
 
 impl<'a> Setting<'a> {
     /// All files as they are, and nothing fails.
-    pub fn plain(files: &'a [CaseFile]) -> Setting<'a> {
+    pub fn plain(files: &'a [CaseFile], store: Store) -> Setting<'a> {
         Setting {
             files,
-            store: Store::Index,
+            store,
             is_heard: true,
             changed: None,
             failing_load: 0,
@@ -55,8 +67,17 @@ pub struct Printed {
     pub sink: MemorySink,
 }
 
+/// How many listeners a setting has.
+fn listeners(setting: &Setting<'_>) -> u32
+    ensures { result ≡ (if setting.now.is_heard then 16 else 0) }
+{
+    if setting.is_heard { LISTENERS } else { 0 }
+}
+
 /// The library of a setting.
-fn library<'a>(setting: &Setting<'a>) -> CaseLibrary<'a> {
+fn library<'a>(setting: &Setting<'a>) -> CaseLibrary<'a>
+    ensures { result ≡ library_of setting.now }
+{
     CaseLibrary {
         files: setting.files,
         changed: setting.changed,
@@ -71,14 +92,18 @@ fn run_over<S: FrameStore>(
     alloc: Global,
     words: &[String],
     setting: &Setting<'_>,
-) -> Result<Printed, OutOfMemory> {
-    let count = if setting.is_heard { LISTENERS } else { 0 };
+) -> Result<Printed, OutOfMemory>
+    ensures { IfOk result (λ printed.
+        IsRunOf setting.now (map string_bytes words.now) printed.status printed.sink) }
+{
+    let count = listeners(setting);
+    let mut library = library(setting);
     let mut sink = MemorySink::new(alloc, vec![in alloc; setting.failing_put]?);
     let status = run_by_rules::<S, CaseLibrary<'_>, MemorySink>(
         alloc,
         count,
         words,
-        &mut library(setting),
+        &mut library,
         &mut sink,
     )?;
     Ok(Printed {
@@ -88,11 +113,10 @@ fn run_over<S: FrameStore>(
 }
 
 /// Runs the words.
-pub fn run_words(
-    alloc: Global,
-    words: &[String],
-    setting: &Setting<'_>,
-) -> anyhow::Result<Printed> {
+pub fn run_words(alloc: Global, words: &[String], setting: &Setting<'_>) -> anyhow::Result<Printed>
+    ensures { IfOk result (λ printed.
+        IsRunOf setting.now (map string_bytes words.now) printed.status printed.sink) }
+{
     let printed = match setting.store {
         Store::Index => run_over::<IndexStore>(alloc, words, setting),
         Store::List => run_over::<ListStore>(alloc, words, setting),

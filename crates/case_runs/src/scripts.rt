@@ -1,5 +1,8 @@
 //! Scripts that are changed before they are run.
 
+ghost use Rattle.std.specs.Prelude.{◌≡◌, ◌+◌, ◌-◌, ◌^◌, ◌<◌, ◌++◌, IfOk, codes, string_bytes};
+ghost use Rattle.std.specs.Fmt.{decimal};
+
 use std::alloc::{AllocError, Global};
 
 /// An append of a part of a blob.
@@ -46,19 +49,42 @@ pub fn append_len(script: &str) -> Option<u64> {
     None
 }
 
-/// The two appends that a part makes which is cut, with a drain between them.
-fn cut_append(alloc: Global, part: Part, at: u64) -> Result<String, AllocError> {
+/// A part that is cut behind so many bytes.
+fn cut_part(part: Part, at: u64) -> (Part, Part)
+    ensures front { result.0 ≡ record part { len = at } }
+    ensures back { part.first + at < 2 ^ 64
+        → result.1 ≡ record part { first = part.first + at; len = part.len - at } }
+{
+    let front = Part { len: at, ..part };
+    let back = Part {
+        first: part.first.saturating_add(at),
+        len: part.len.saturating_sub(at),
+        ..part
+    };
+    (front, back)
+}
+
+/// The append of a part.
+fn append_text(alloc: Global, part: Part) -> Result<String, AllocError>
+    ensures { IfOk result (λ text. string_bytes text
+        ≡ codes "append " ++ (decimal part.buffer ++ (codes " " ++ (decimal part.blob
+        ++ (codes " " ++ (decimal part.first ++ (codes " " ++ decimal part.len))))))) }
+{
     let Part {
         buffer,
         blob,
         first,
         len,
     } = part;
-    let second = first.saturating_add(at);
-    let rest = len.saturating_sub(at);
-    format!(in alloc;
-        "append {buffer} {blob} {first} {at}\", \"drain\", \"append {buffer} {blob} {second} {rest}"
-    )
+    format!(in alloc; "append {buffer} {blob} {first} {len}")
+}
+
+/// The two appends that a part makes which is cut, with a drain between them.
+fn cut_append(alloc: Global, part: Part, at: u64) -> Result<String, AllocError> {
+    let (front, back) = cut_part(part, at);
+    let front = append_text(alloc, front)?;
+    let back = append_text(alloc, back)?;
+    format!(in alloc; "{front}\", \"drain\", \"{back}")
 }
 
 /// The script whose first append of a part is cut behind so many bytes.

@@ -1,5 +1,10 @@
 //! The table of what the front parts of a file print.
 
+ghost use Rattle.std.specs.Prelude.{◌≡◌, ◌≢◌, ◌<◌, ◌-◌, ◌++◌, ◌==◌, All, IfOk, length, string_bytes};
+ghost use Rattle.std.specs.Fmt.{decimal};
+ghost use Rattle.std.specs.List.{after_first, before_first, position_or_len};
+ghost use Rattle.std.specs.Str.Parse.{digits_value, without_leading_plus};
+
 use anyhow::{Result, anyhow};
 use std::alloc::{AllocError, Global};
 
@@ -12,7 +17,10 @@ pub struct Row {
     pub block: String,
 }
 
-pub fn read_number(word: &str) -> Result<usize> {
+/// The decimal number of a word.
+pub fn read_number(word: &str) -> Result<usize>
+    ensures { IfOk result (λ n. n ≡ digits_value 10 (without_leading_plus word.now)) }
+{
     match word.parse::<usize>() {
         Ok(number) => Ok(number),
         Err(_) => Err(anyhow!("no number: {word}")),
@@ -59,16 +67,20 @@ pub fn read_table(alloc: Global, table: &str) -> Result<Vec<Row>> {
 }
 
 /// What the front part of this length prints.
-pub fn block_of(alloc: Global, row: &Row, len: usize) -> Result<String, AllocError> {
-    let held = format!(in alloc; "{}", len.saturating_sub(row.base))?;
-    let mut block = String::new(alloc);
+pub fn block_of(alloc: Global, row: &Row, len: usize) -> Result<String, AllocError>
+    ensures star { position_or_len (λ b. b == 42) (string_bytes row.now.block)
+        < length (string_bytes row.now.block) → IfOk result (λ block.
+        string_bytes block ≡ before_first (λ b. b == 42) (string_bytes row.now.block)
+        ++ (decimal (len - row.now.base)
+        ++ after_first (λ b. b == 42) (string_bytes row.now.block))) }
+    ensures no_star { All (λ b. b ≢ 42) (string_bytes row.now.block)
+        → IfOk result (λ block. string_bytes block ≡ string_bytes row.now.block) }
+{
     match row.block.as_str().split_once('*') {
         Some((front, back)) => {
-            block.push_str(front)?;
-            block.push_str(held.as_str())?;
-            block.push_str(back)?;
+            let held = len.saturating_sub(row.base);
+            format!(in alloc; "{front}{held}{back}")
         }
-        None => block.push_str(row.block.as_str())?,
+        None => String::from_str(alloc, row.block.as_str()),
     }
-    Ok(block)
 }

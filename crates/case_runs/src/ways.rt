@@ -1,6 +1,10 @@
 //! What is tried with a case.
 
-use crate::compare::{difference, difference_of_run};
+ghost use Rattle.std.specs.Prelude.{◌≡◌, ◌≢◌, ◌↔◌, None, Some, IfOk, IsTrue, codes, false, option_map, slice_get, string_bytes};
+ghost use Rattle.case_runs.specs.Closing.{CloseAlike, IsClosing};
+ghost use Rattle.case_runs.specs.Runs.{IsAsWanted};
+
+use crate::compare::{difference, difference_of_run, try_words};
 use crate::failing::{try_loads, try_puts};
 use crate::files::{CaseFile, bytes_of, text_of};
 use crate::list::{Case, Way};
@@ -14,49 +18,37 @@ use std::alloc::{AllocError, Global};
 const MEDIA: u8 = 9;
 
 /// Whether a case plays a script.
-fn plays_script(case: &Case<'_>) -> bool {
+fn plays_script(case: &Case<'_>) -> bool
+    ensures { IsTrue result
+        ↔ (option_map string_bytes (slice_get case.now.words.items 0) ≡ Some (codes "play")) }
+{
     matches!(case.words.first(), Some(word) if word.as_str() == "play")
 }
 
-/// The words print the text, over this store, with the listeners of the program or with none.
-fn try_store(
-    alloc: Global,
-    files: &[CaseFile],
-    case: &Case<'_>,
-    changed: Option<(&str, &[u8])>,
-    runner: (Store, bool),
-) -> Result<Option<String>> {
-    let (store, is_heard) = runner;
-    let setting = Setting {
-        store,
-        is_heard,
-        changed,
-        ..Setting::plain(files)
-    };
-    let printed = run_words(alloc, &case.words, &setting)?;
-    let text = bytes_of(files, case.text)?;
-    Ok(difference_of_run(alloc, case.status, text, &printed)?)
+/// The words print the text.
+fn try_setting(alloc: Global, case: &Case<'_>, setting: &Setting<'_>) -> Result<Option<String>>
+    ensures { IfOk result (λ found. found ≡ None → IsAsWanted setting.now case.now) }
+{
+    let text = bytes_of(setting.files, case.text)?;
+    try_words(alloc, &case.words, setting, case.status, text)
 }
 
-/// The words print the text, over both stores; and without listeners, where no script has rules for them.
-fn try_text(
-    alloc: Global,
-    files: &[CaseFile],
-    case: &Case<'_>,
-    changed: Option<(&str, &[u8])>,
-) -> Result<Option<String>> {
-    for runner in [
-        (Store::Index, true),
-        (Store::List, true),
-        (Store::Index, false),
-    ] {
-        if runner.1 || !plays_script(case) {
-            if let Some(found) = try_store(alloc, files, case, changed, runner)? {
-                return Ok(Some(found));
-            }
-        }
+/// The words print the text; and without listeners, where no script has rules for them.
+fn try_text(alloc: Global, case: &Case<'_>, setting: &Setting<'_>) -> Result<Option<String>>
+    ensures as_is { IfOk result (λ found. found ≡ None → IsAsWanted setting.now case.now) }
+    ensures unheard { IfOk result (λ found. found ≡ None
+        → option_map string_bytes (slice_get case.now.words.items 0) ≢ Some (codes "play")
+        → IsAsWanted (record setting.now { is_heard = false }) case.now) }
+{
+    let found = try_setting(alloc, case, setting)?;
+    if found.is_some() || plays_script(case) {
+        return Ok(found);
     }
-    Ok(None)
+    let unheard = Setting {
+        is_heard: false,
+        ..*setting
+    };
+    try_setting(alloc, case, &unheard)
 }
 
 /// The name and the text of the script that a case plays.
@@ -68,20 +60,26 @@ fn script_of<'a>(files: &'a [CaseFile], case: &'a Case<'a>) -> Result<(&'a str, 
 }
 
 /// What closes a text: the code of the element's error, and the block.
-fn closing(text: &str) -> &str {
+fn closing(text: &str) -> &str
+    ensures { IsClosing text.now result.now }
+{
     match text.rsplit_once(" error ") {
         Some((_, closing)) => closing,
         None => text,
     }
 }
 
-/// Where the closing of a run differs from that of a text.
+/// Where the closing of a run differs from that of a text; `None` only where the run closes so, with this status.
 fn difference_of_closing(
     alloc: Global,
     status: u8,
     text: &str,
     printed: &Printed,
-) -> Result<Option<String>> {
+) -> Result<Option<String>>
+    ensures status { IfOk result (λ found. found ≡ None → printed.now.status ≡ status) }
+    ensures closing { IfOk result (λ found. found ≡ None
+        → CloseAlike text.now printed.now.sink.written) }
+{
     let found = closing(text_of(printed.sink.written())?);
     if printed.status != status {
         return Ok(difference_of_run(alloc, status, text.as_bytes(), printed)?);
@@ -92,11 +90,11 @@ fn difference_of_closing(
 /// The first append of a part is cut at each byte.
 fn try_cuts<'x>(
     alloc: Global,
-    files: &'x [CaseFile],
     case: &'x Case<'x>,
+    setting: &'x Setting<'x>,
 ) -> Result<Option<String>> {
-    let (name, script) = script_of(files, case)?;
-    let text = text_of(bytes_of(files, case.text)?)?;
+    let (name, script) = script_of(setting.files, case)?;
+    let text = text_of(bytes_of(setting.files, case.text)?)?;
     let Some(len) = append_len(script) else {
         return Err(anyhow!("{name} appends no part of a blob"));
     };
@@ -104,7 +102,7 @@ fn try_cuts<'x>(
         let script = cut_script(alloc, script, at)?;
         let setting = Setting {
             changed: Some((name, script.as_bytes())),
-            ..Setting::plain(files)
+            ..*setting
         };
         let printed = run_words(alloc, &case.words, &setting)?;
         if let Some(found) = difference_of_closing(alloc, case.status, text, &printed)? {
@@ -135,8 +133,8 @@ fn difference_of_front(
 /// The front parts of the lengths of a row print its block.
 fn try_row(
     alloc: Global,
-    files: &[CaseFile],
     case: &Case<'_>,
+    setting: &Setting<'_>,
     file: (&str, &[u8]),
     row: &Row,
 ) -> Result<Option<String>> {
@@ -149,7 +147,7 @@ fn try_row(
         let block = block_of(alloc, row, len)?;
         let setting = Setting {
             changed: Some((name, front)),
-            ..Setting::plain(files)
+            ..*setting
         };
         let printed = run_words(alloc, &case.words, &setting)?;
         if let Some(found) = difference_of_front(alloc, is_script, block.as_str(), &printed)? {
@@ -162,19 +160,19 @@ fn try_row(
 /// The file of this name is cut at each byte. The rows of the table follow each other, from 0 to its length.
 fn try_fronts(
     alloc: Global,
-    files: &[CaseFile],
     case: &Case<'_>,
+    setting: &Setting<'_>,
     name: &str,
 ) -> Result<Option<String>> {
-    let bytes = bytes_of(files, name)?;
-    let rows = read_table(alloc, text_of(bytes_of(files, case.text)?)?)?;
+    let bytes = bytes_of(setting.files, name)?;
+    let rows = read_table(alloc, text_of(bytes_of(setting.files, case.text)?)?)?;
     let mut next = 0usize;
     for row in &rows {
         if row.shortest != next {
             return Err(anyhow!("a row begins with {next} bytes"));
         }
         next = row.longest.saturating_add(1);
-        if let Some(found) = try_row(alloc, files, case, (name, bytes), row)? {
+        if let Some(found) = try_row(alloc, case, setting, (name, bytes), row)? {
             return Ok(Some(found));
         }
     }
@@ -185,26 +183,43 @@ fn try_fronts(
 }
 
 /// A line of the script stands so many times.
-fn try_repeated(
+fn try_repeated<'x>(
     alloc: Global,
-    files: &[CaseFile],
-    case: &Case<'_>,
+    case: &'x Case<'x>,
+    setting: &'x Setting<'x>,
     count: u64,
 ) -> Result<Option<String>> {
-    let (name, script) = script_of(files, case)?;
+    let (name, script) = script_of(setting.files, case)?;
     let script = repeated_script(alloc, script, count)?;
-    try_text(alloc, files, case, Some((name, script.as_bytes())))
+    let setting = Setting {
+        changed: Some((name, script.as_bytes())),
+        ..*setting
+    };
+    try_text(alloc, case, &setting)
 }
 
-/// Where a case differs from what is wanted; `None` where it does not.
-pub fn try_case(alloc: Global, files: &[CaseFile], case: &Case<'_>) -> Result<Option<String>> {
+/// Where a case differs with a setting from what is wanted; `None` where it does not.
+fn try_way(alloc: Global, case: &Case<'_>, setting: &Setting<'_>) -> Result<Option<String>> {
     match case.way {
-        Way::Run => try_text(alloc, files, case, None),
-        Way::Indexed => try_store(alloc, files, case, None, (Store::Index, true)),
-        Way::Puts(ends) => try_puts(alloc, files, case, ends),
-        Way::Loads => try_loads(alloc, files, case),
-        Way::Cut => try_cuts(alloc, files, case),
-        Way::Fronts(name) => try_fronts(alloc, files, case, name),
-        Way::Repeat(count) => try_repeated(alloc, files, case, count),
+        Way::Run => try_text(alloc, case, setting),
+        Way::Indexed => try_setting(alloc, case, setting),
+        Way::Puts(ends) => try_puts(alloc, case, setting, ends),
+        Way::Loads => try_loads(alloc, case, setting),
+        Way::Cut => try_cuts(alloc, case, setting),
+        Way::Fronts(name) => try_fronts(alloc, case, setting, name),
+        Way::Repeat(count) => try_repeated(alloc, case, setting, count),
     }
+}
+
+/// Where a case differs from what is wanted, and over which store; `None` where it does not.
+pub fn try_case(alloc: Global, files: &[CaseFile], case: &Case<'_>) -> Result<Option<String>> {
+    for store in [Store::Index, Store::List] {
+        if store == Store::Index || case.way != Way::Indexed {
+            if let Some(found) = try_way(alloc, case, &Setting::plain(files, store))? {
+                let store = store.name();
+                return Ok(Some(format!(in alloc; "over {store}: {found}")?));
+            }
+        }
+    }
+    Ok(None)
 }
