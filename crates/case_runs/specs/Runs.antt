@@ -1,13 +1,27 @@
 -- What a run of a case is, and when it is as wanted.
-use Rattle.std.specs.Prelude.{◌≡◌, ℕ, List, [], ◌∷◌, Some, IsSomeAnd, map, string_bytes, if◌then◌else◌}
+use denote.Ref.{Bor}
+use Rattle.std.specs.Prelude.{◌≡◌, ℕ, true, List, [], ◌∷◌, Some, None, IsSomeAnd, map, string_bytes, if◌then◌else◌}
 use Rattle.mse_outside.specs.Memory.{LibraryState, SinkState, IsMemoryLoad, table_of}
 use Rattle.mse_outside.specs.Outside.{sink_view}
 use Rattle.mse_commands.specs.declared.ending.Status.{Status}
 use Rattle.mse_commands.specs.Endings.{status_number}
 use Rattle.rule_run.specs.ByRules.{IsRunByRules, LibraryAndSink, library_and_sink}
+use Rattle.case_runs.specs.declared.files.CaseFile.{CaseFile}
 use Rattle.case_runs.specs.declared.list.Case.{Case}
 use Rattle.case_runs.specs.declared.printed.Setting.{Setting}
+use Rattle.case_runs.specs.declared.printed.Store.{Store}
 use Rattle.case_runs.specs.Given.{files_in, with_changed}
+
+-- all files as they are, and nothing fails
+abbrev pub plain : Bor (List CaseFile) → Store → Setting
+plain files store = record {
+  files = files;
+  store = store;
+  is_heard = true;
+  changed = None;
+  failing_load = 0;
+  failing_put = (0, 0);
+}
 
 -- the library of a setting, of which nothing was loaded yet
 abbrev pub library_of : Setting → LibraryState

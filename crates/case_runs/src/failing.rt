@@ -1,6 +1,6 @@
 //! Runs in which a put or a load fails.
 
-ghost use Rattle.std.specs.Prelude.{◌≡◌, ◌++◌, ◌∷◌, [], None, IfOk, codes, map, string_bytes, take};
+ghost use Rattle.std.specs.Prelude.{◌≡◌, ◌≤◌, ◌-◌, ◌++◌, ◌∷◌, ℕ, [], None, IfOk, codes, map, string_bytes, take};
 ghost use Rattle.case_runs.specs.Runs.{Prints};
 
 use crate::compare::try_words;
@@ -33,7 +33,11 @@ fn try_put(
     setting: &Setting<'_>,
     text: &[u8],
     put: (u64, usize, usize),
-) -> Result<Option<String>> {
+) -> Result<Option<String>>
+    ensures { IfOk result (λ found. found ≡ None → (n : ℕ) → put.1 ≤ n → n ≤ put.2
+        → Prints (record setting.now { failing_put = (put.0, n - put.1) })
+        (map string_bytes case.now.words.items) WRITE (take n text.now)) }
+{
     let (number, start, end) = put;
     for written in start..=end {
         let count = written.saturating_sub(start) as u64;

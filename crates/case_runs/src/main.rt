@@ -3,9 +3,9 @@
 //! stores of coded frames. For each case that differs a line is printed, with the store and the first line that does, and
 //! in the end how many are as wanted.
 //!
-//! It stands on `rule_run`. A run is one call of [`run_by_rules`](rule_run::run_by_rules), and so is the program
-//! (`mseplay`), which hands in the folder and standard output where a case hands in memory. `examples/README.md` says
-//! what a case is.
+//! It stands on `rule_run`, whose [`run_by_rules`](rule_run::run_by_rules) makes each run. The program (`mseplay`) makes its
+//! run by this call too: it hands in the folder, standard output, and the store of `track_index`. `examples/README.md`
+//! says what a case is, and `IsAsWanted` in `specs/Runs.antt` when it is as wanted.
 #![tactic(auto)]
 
 ghost use Rattle.std.specs.Prelude.{◌≡◌, ◌≢◌, ◌↔◌, [], Some, IsTrue, if◌then◌else◌, slice_get};

@@ -1,7 +1,7 @@
 //! A run, and what it prints.
 
 ghost use Rattle.std.specs.Prelude.{◌≡◌, IfOk, if◌then◌else◌, map, string_bytes};
-ghost use Rattle.case_runs.specs.Runs.{IsRunOf, library_of};
+ghost use Rattle.case_runs.specs.Runs.{IsRunOf, library_of, plain};
 
 use crate::files::CaseFile;
 use crate::library::CaseLibrary;
@@ -48,7 +48,9 @@ pub struct Setting<'a> {
 
 impl<'a> Setting<'a> {
     /// All files as they are, and nothing fails.
-    pub fn plain(files: &'a [CaseFile], store: Store) -> Setting<'a> {
+    pub fn plain(files: &'a [CaseFile], store: Store) -> Setting<'a>
+        ensures { result ≡ plain files.entry store }
+    {
         Setting {
             files,
             store,

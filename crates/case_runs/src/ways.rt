@@ -2,7 +2,7 @@
 
 ghost use Rattle.std.specs.Prelude.{◌≡◌, ◌≢◌, ◌↔◌, None, Some, IfOk, IsTrue, codes, false, option_map, slice_get, string_bytes};
 ghost use Rattle.case_runs.specs.Closing.{CloseAlike, IsClosing};
-ghost use Rattle.case_runs.specs.Runs.{IsAsWanted};
+ghost use Rattle.case_runs.specs.Runs.{IsAsWanted, plain};
 
 use crate::compare::{difference, difference_of_run, try_words};
 use crate::failing::{try_loads, try_puts};
@@ -199,7 +199,10 @@ fn try_repeated<'x>(
 }
 
 /// Where a case differs with a setting from what is wanted; `None` where it does not.
-fn try_way(alloc: Global, case: &Case<'_>, setting: &Setting<'_>) -> Result<Option<String>> {
+fn try_way(alloc: Global, case: &Case<'_>, setting: &Setting<'_>) -> Result<Option<String>>
+    ensures run { case.now.way ≡ Way.Run
+        → IfOk result (λ found. found ≡ None → IsAsWanted setting.now case.now) }
+{
     match case.way {
         Way::Run => try_text(alloc, case, setting),
         Way::Indexed => try_setting(alloc, case, setting),
@@ -211,15 +214,35 @@ fn try_way(alloc: Global, case: &Case<'_>, setting: &Setting<'_>) -> Result<Opti
     }
 }
 
-/// Where a case differs from what is wanted, and over which store; `None` where it does not.
-pub fn try_case(alloc: Global, files: &[CaseFile], case: &Case<'_>) -> Result<Option<String>> {
-    for store in [Store::Index, Store::List] {
-        if store == Store::Index || case.way != Way::Indexed {
-            if let Some(found) = try_way(alloc, case, &Setting::plain(files, store))? {
-                let store = store.name();
-                return Ok(Some(format!(in alloc; "over {store}: {found}")?));
-            }
+/// Where a case differs over a store from what is wanted, told with the store; `None` where it does not.
+fn try_over(
+    alloc: Global,
+    files: &[CaseFile],
+    case: &Case<'_>,
+    store: Store,
+) -> Result<Option<String>>
+    ensures run { case.now.way ≡ Way.Run
+        → IfOk result (λ found. found ≡ None → IsAsWanted (plain files.entry store) case.now) }
+{
+    match try_way(alloc, case, &Setting::plain(files, store))? {
+        Some(found) => {
+            let store = store.name();
+            Ok(Some(format!(in alloc; "over {store}: {found}")?))
         }
+        None => Ok(None),
     }
-    Ok(None)
+}
+
+/// Where a case differs from what is wanted, over both stores or over that of the program; `None` where it does not.
+pub fn try_case(alloc: Global, files: &[CaseFile], case: &Case<'_>) -> Result<Option<String>>
+    ensures index { case.now.way ≡ Way.Run → IfOk result (λ found. found ≡ None
+        → IsAsWanted (plain files.entry Store.Index) case.now) }
+    ensures list { case.now.way ≡ Way.Run → IfOk result (λ found. found ≡ None
+        → IsAsWanted (plain files.entry Store.List) case.now) }
+{
+    let found = try_over(alloc, files, case, Store::Index)?;
+    if found.is_some() || matches!(case.way, Way::Indexed) {
+        return Ok(found);
+    }
+    try_over(alloc, files, case, Store::List)
 }
