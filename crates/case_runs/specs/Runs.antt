@@ -56,7 +56,8 @@ pub record IsRunOf (setting : Setting) (words : List (List ℕ)) (status : ℕ) 
   pub library : LibraryState
   pub run : IsRunByRules (if setting.is_heard then 16 else 0)
       (Some (table_of (library_of setting).files)) IsMemoryLoad words
-      (library_and_memory (library_of setting) (sink_of setting)) (library_and_memory library sink) end
+      (library_and_memory (library_of setting) (sink_of setting))
+      (library_and_memory library sink) end
 
 -- Such a run came to this status, and printed this text.
 pub record Prints (setting : Setting) (words : List (List ℕ)) (status : ℕ) (text : List ℕ)

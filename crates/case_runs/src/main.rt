@@ -1,11 +1,11 @@
-//! Runs the cases of its folder: each line of `cases.txt` names the words of a run, its status, and the file with what it
-//! prints. A run gets the folder's files by a library in memory, and prints into a sink in memory; it is made over both
-//! stores of coded frames. For each case that differs a line is printed, with the store and the first line that does, and
-//! in the end how many are as wanted.
+//! Runs the cases of its folder: each line of `cases.txt` names the words of a run, its status, and the file with what
+//! it prints. A run gets the folder's files by a library in memory, and prints into a sink in memory; it is made over
+//! both stores of coded frames. For each case that differs a line is printed, with the store and the first line that
+//! does, and in the end how many are as wanted.
 //!
-//! It stands on `rule_run`, whose [`run_by_rules`](rule_run::run_by_rules) makes each run. The program (`mseplay`) makes its
-//! run by this call too: it hands in the folder, standard output, and the store of `track_index`. `examples/README.md`
-//! says what a case is, and `IsAsWanted` in `specs/Runs.antt` when it is as wanted.
+//! It stands on `rule_run`, whose [`run_by_rules`](rule_run::run_by_rules) makes each run. The program (`mseplay`)
+//! makes its run by this call too: it hands in the folder, standard output, and the store of `track_index`.
+//! `examples/README.md` says what a case is, and `IsAsWanted` in `specs/Runs.antt` when it is as wanted.
 #![tactic(auto)]
 
 ghost use Rattle.std.specs.Prelude.{◌≡◌, ◌≢◌, ◌↔◌, [], Some, IsTrue, if◌then◌else◌, slice_get};

@@ -1,6 +1,6 @@
 //! What is tried with a case.
 
-ghost use Rattle.std.specs.Prelude.{◌≡◌, ◌≢◌, ◌↔◌, None, Some, IfOk, IsTrue, codes, false, option_map, slice_get, string_bytes};
+ghost use Rattle.std.specs.Prelude.{◌≡◌, ◌≢◌, ◌↔◌, false, None, Some, IfOk, IsTrue, codes, option_map, slice_get, string_bytes};
 ghost use Rattle.case_runs.specs.Closing.{CloseAlike, IsClosing};
 ghost use Rattle.case_runs.specs.Runs.{IsAsWanted, plain};
 
