@@ -114,8 +114,10 @@ const BEHIND_TAG: [Item; 3] = [
 ];
 
 /// Parts of a string that may be cut anywhere, and the items of the whole: of two frames, and of a tag with a frame.
-static WHOLES: [(&[&[u8]], &[Item]); 2] =
-    [(&[&FRAME, &FRAME], &TWO), (&[&TAG, &[0, 0], &FRAME], &BEHIND_TAG)];
+static WHOLES: [(&[&[u8]], &[Item]); 2] = [
+    (&[&FRAME, &FRAME], &TWO),
+    (&[&TAG, &[0, 0], &FRAME], &BEHIND_TAG),
+];
 
 #[test]
 fn every_cut_gives_the_same(rt: HostRuntime) {
@@ -206,7 +208,9 @@ fn state_behind(rt: &(impl Abort + AllocGlobal), bytes: &[u8]) -> (bool, usize, 
 /// What is known of the first bytes of two frames.
 #[test]
 fn truncated_frames(rt: HostRuntime) {
-    let frames = [FRAME.as_slice(), FRAME.as_slice()].concat(rt.alloc()).expect(&rt, "memory");
+    let frames = [FRAME.as_slice(), FRAME.as_slice()]
+        .concat(rt.alloc())
+        .expect(&rt, "memory");
     expect(&rt, "two frames", frames.len() == 20);
     for cut in 0..frames.len() + 1 {
         let (first, _) = frames.as_slice().split_at(cut);
