@@ -1,6 +1,6 @@
 //! A run, and what it prints.
 
-ghost use Rattle.std.specs.Prelude.{◌≡◌, IfOk, if◌then◌else◌, map, string_bytes};
+ghost use Rattle.std.specs.Prelude.{◌≡◌, IfOk, codes, if◌then◌else◌, map, string_bytes};
 ghost use Rattle.case_runs.specs.Runs.{IsRunOf, library_of, plain};
 
 use crate::files::CaseFile;
@@ -23,7 +23,11 @@ pub enum Store {
 }
 
 impl Store {
-    pub fn name(self) -> &'static str {
+    /// The name of its type.
+    pub fn name(self) -> &'static str
+        ensures index { self ≡ Store.Index → result.now ≡ codes "IndexStore" }
+        ensures list { self ≡ Store.List → result.now ≡ codes "ListStore" }
+    {
         match self {
             Store::Index => "IndexStore",
             Store::List => "ListStore",

@@ -66,7 +66,7 @@ pub fn read_table(alloc: Global, table: &str) -> Result<Vec<Row>> {
     Ok(rows)
 }
 
-/// What the front part of this length prints.
+/// What the front part of this length prints: the block of the row, with the length less its base for the first `*` (42).
 pub fn block_of(alloc: Global, row: &Row, len: usize) -> Result<String, AllocError>
     ensures star { position_or_len (λ b. b == 42) (string_bytes row.now.block)
         < length (string_bytes row.now.block) → IfOk result (λ block.
