@@ -14,6 +14,7 @@ use Rattle.mse_calls.specs.declared.calls.Mode.{Mode}
 use Rattle.mse_calls.specs.declared.calls.Mode.TheVariants.{Segments, Sequence}
 use Rattle.mse_calls.specs.declared.events.EventKind.{EventKind}
 use Rattle.mse_calls.specs.declared.events.EventKind.TheVariants.{UpdateStart, UpdateEnd, Abort}
+use Rattle.mse_calls.specs.declared.views.BufferAttributes.{BufferAttributes}
 use Rattle.mse_calls.specs.declared.views.BufferView.{BufferView}
 use Rattle.mse_calls.specs.Ready.{is_open, is_ended}
 use Rattle.byte_stream.specs.Readings.{held_at}
@@ -215,4 +216,23 @@ buffer_view number ended f c = record {
   used = used_in c.media;
   ranges = buffered_of ended c.media;
   tracks = track_views_of c.media;
+}
+
+-- ---- what a page reads (3.1, attributes of SourceBuffer)
+
+-- mode, which is "sequence" or "segments"
+abbrev pub mode_by : Bool → Mode
+mode_by true = Sequence
+mode_by false = Segments
+
+-- where the source is ended or not, and the buffer is active or not
+abbrev pub buffer_attributes : ℕ → Bool → Bool → Feed → Content → BufferAttributes
+buffer_attributes number ended active f c = record {
+  updating = is_updating f.running;
+  active = active;
+  mode = mode_by c.media.settings.sequence;
+  timestamp_offset = c.media.settings.offset;
+  append_window_start = c.media.settings.window_start;
+  append_window_end = c.media.settings.window_end;
+  view = buffer_view number ended f c;
 }

@@ -14,7 +14,7 @@ ghost use Rattle.track_buffers.specs.Buffered.{buffered_of, is_buffered_up_to};
 ghost use Rattle.buffer_state.specs.State.{Feed, Content, KeptBuffer, Stands, surroundings, append_input, new_feed, phase_in, ready_in, is_updating, is_appending, is_removing};
 ghost use Rattle.buffer_state.specs.Replies.{IsDone, IsReplyKeptUnlessDid, IsStillWithin, HasRangesAfterInit, IsTurnIfOk, changes_of, reply_of};
 ghost use Rattle.buffer_state.specs.Turns.{turn_result};
-ghost use Rattle.buffer_state.specs.Calls.{has_generated_timestamps, end_work_result, buffer_view};
+ghost use Rattle.buffer_state.specs.Calls.{has_generated_timestamps, end_work_result, buffer_attributes, buffer_view, mode_by};
 ghost use Rattle.buffer_state.specs.declared.buffer_context.BufferContext.{BufferContext};
 ghost use Rattle.buffer_state.specs.AllCalls.{call_at, most_changes, IsCallDone, IsRefusal};
 ghost use Rattle.buffer_state.specs.AllCalls as calls;
@@ -29,7 +29,7 @@ use crate::running::Running;
 use crate::{appending, removal, resets, settings_calls, turns};
 use byte_stream::{ByteStream, Container};
 use mse_base::{Bytes, Moment, OutOfMemory, Phase, Ranges, Span, Ticks};
-use mse_calls::{BufferView, Mode, Name, TimeRanges};
+use mse_calls::{BufferAttributes, BufferView, Mode, Name, TimeRanges};
 use mse_types::read_type;
 use std::alloc::Global;
 use std::marker::Model;
@@ -499,5 +499,39 @@ impl<S: FrameStore> Buffer<S> {
             ranges: TimeRanges::new(ranges),
             tracks,
         })
+    }
+
+    /// What a page reads of the buffer, where the source is ended or not, and the buffer is active or not.
+    pub fn attributes(
+        &self,
+        number: u32,
+        ended: bool,
+        active: bool,
+    ) -> Result<BufferAttributes, OutOfMemory>
+        ensures { (f : Feed) (c : Content) → Stands self.now f c
+            → IfOk result (λ found. found ≡ buffer_attributes number ended active f c) }
+    {
+        let view = self.view(number, ended)?;
+        let settings = self.media.settings();
+        Ok(BufferAttributes {
+            updating: self.running.is_updating(),
+            active,
+            mode: mode_by(settings.sequence),
+            timestamp_offset: settings.offset,
+            append_window_start: settings.window_start,
+            append_window_end: settings.window_end,
+            view,
+        })
+    }
+}
+
+/// The append mode, which is "sequence" or not.
+fn mode_by(sequence: bool) -> Mode
+    ensures { result ≡ mode_by sequence }
+{
+    if sequence {
+        Mode::Sequence
+    } else {
+        Mode::Segments
     }
 }

@@ -89,7 +89,7 @@ impl Player {
     }
 
     /// Whether playback has ended (HTML, "ended playback").
-    fn has_ended(&self, scene: &Scene) -> bool
+    pub fn has_ended(&self, scene: &Scene) -> bool
         ensures { result ≡ has_ended scene.now self.now }
     {
         self.level.has_metadata() && scene.ended && Moment::At(self.position) == scene.duration

@@ -1,5 +1,6 @@
 ghost use Rattle.std.specs.Prelude.{◌≡◌, ◌+◌, ◌≤◌, ◌++◌, ◌∷◌, [], OnOk, length, replicate, slice_get, int_lt, ◌==◌, not, ◌&&◌};
 ghost use Rattle.mse_calls.specs.Level.{has_metadata};
+ghost use Rattle.element_seek.specs.State.{has_ended};
 ghost use Rattle.element_seek.specs.Seeking.{after_seek, after_load};
 ghost use Rattle.element_seek.specs.Playing.{after_play, after_pause, after_advance, after_fail};
 ghost use Rattle.element_seek.specs.Turns.{is_due};
@@ -308,6 +309,13 @@ impl Element {
         ensures { result ≡ is_due scene.now self.now.state.player }
     {
         self.player.due(scene)
+    }
+
+    /// Whether playback has ended (HTML, "ended playback").
+    pub fn has_ended(&self, scene: &Scene) -> bool
+        ensures { result ≡ has_ended scene.now self.now.state.player }
+    {
+        self.player.has_ended(scene)
     }
 
     /// Takes the first event off the queue; `None` exactly where it is empty. Its place is room

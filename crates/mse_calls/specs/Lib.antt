@@ -1,4 +1,5 @@
 pub mod AnswerAndState
+pub mod Blobs
 pub mod Level
 pub mod Pieces
 pub mod Ready

@@ -1,24 +1,35 @@
-ghost use Rattle.std.specs.Prelude.{◌≡◌, ◌++◌, ◌∷◌, [], OnOk, OnErr, length, slice_get, IfOk};
+ghost use Rattle.std.specs.Prelude.{◌≡◌, ◌++◌, ◌∷◌, [], OnOk, OnErr, length, drop, min, slice_get, IfOk};
 ghost use Rattle.std.specs.Option.{option_copied};
+ghost use Rattle.mse_calls.specs.Blobs.{forgotten_before};
 ghost use Rattle.mse_calls.specs.Pieces.{bytes_of, part_of};
 
 use crate::Piece;
 use mse_base::{Bytes, OutOfMemory};
 use std::alloc::Global;
+use std::collections::VecDeque;
 use std::marker::Model;
 
-/// The loaded byte strings, in the order in which a script names them.
+/// The loaded byte strings, in the order in which a script names them. Those in front may be forgotten: each is then
+/// without bytes, and takes no memory.
 #[derive(Debug, Drop)]
 pub struct Blobs {
-    items: Vec<Bytes>,
+    alloc: Global,
+    forgotten: usize,
+    /// What is shown for each forgotten blob.
+    no_bytes: Option<Bytes>,
+    items: VecDeque<Bytes>,
 }
 
 impl Model for Blobs {
-    ghost use Rattle.std.specs.Prelude.{List, ℕ};
+    ghost use Rattle.std.specs.Prelude.{List, ℕ, ◌+◌, ◌<◌, ◌^◌, length};
+    ghost use Rattle.mse_calls.specs.Blobs.{behind_forgotten, HasNoBytes};
 
     ghost Value = { List (List ℕ) };
 
-    ghost view = { λ b. b.items.items };
+    ghost view = { λ b. behind_forgotten b.forgotten b.items.items };
+
+    ghost invariant = { λ b.
+        HasNoBytes b.forgotten b.no_bytes × (b.forgotten + length b.items.items < 2 ^ 64) };
 }
 
 impl Blobs {
@@ -27,7 +38,10 @@ impl Blobs {
         ensures { result ≡ [] }
     {
         Blobs {
-            items: Vec::new(alloc),
+            alloc,
+            forgotten: 0,
+            no_bytes: None,
+            items: VecDeque::new(alloc),
         }
     }
 
@@ -36,7 +50,11 @@ impl Blobs {
         ensures ok { OnOk result (self.new ≡ self.old ++ bytes ∷ []) }
         ensures err { OnErr result (self.new ≡ self.old) }
     {
-        self.items.push(bytes)?;
+        // Forgotten blobs are counted too, so that memory does not bound the count.
+        if self.len() == usize::MAX {
+            return Err(OutOfMemory);
+        }
+        self.items.push_back(bytes)?;
         Ok(())
     }
 
@@ -44,14 +62,30 @@ impl Blobs {
     pub fn len(&self) -> usize
         ensures { result ≡ length self.now }
     {
-        self.items.len()
+        self.forgotten + self.items.len()
     }
 
     /// The blob at a place; `None` exactly past the end.
     pub fn get(&self, i: usize) -> Option<&Bytes>
         ensures { option_copied result ≡ slice_get self.now i }
     {
-        self.items.get(i)
+        if i < self.forgotten {
+            self.no_bytes.as_ref()
+        } else {
+            self.items.get(i - self.forgotten)
+        }
+    }
+
+    /// Forgets the blobs before a place: each is then without bytes. An `Err` changes nothing.
+    pub fn forget_before(&mut self, n: usize) -> Result<(), OutOfMemory>
+        ensures ok { OnOk result (self.new ≡ forgotten_before n self.old) }
+        ensures err { OnErr result (self.new ≡ self.old) }
+    {
+        if self.no_bytes.is_none() {
+            self.no_bytes = Some(Bytes::copy_of(self.alloc, &[])?);
+        }
+        self.forgotten += drop_first(&mut self.items, n.saturating_sub(self.forgotten));
+        Ok(())
     }
 
     /// The bytes of a piece; `None` exactly where there is no such blob, or where the part does
@@ -74,6 +108,18 @@ impl Blobs {
             None => Ok(None),
         }
     }
+}
+
+/// Drops the first `n` blobs, or all where there are fewer, and tells how many.
+fn drop_first(blobs: &mut VecDeque<Bytes>, n: usize) -> usize
+    ensures count { result ≡ min n (length blobs.old.items) }
+    ensures left { blobs.new.items ≡ drop n blobs.old.items }
+{
+    let count = n.min(blobs.len());
+    'blobs: for _ in 0..count {
+        blobs.pop_front();
+    }
+    count
 }
 
 /// The part of some bytes, by its start and its length; `None` exactly where it does not lie

@@ -24,4 +24,6 @@ pub use entry::Entry;
 pub use events::{Event, EventKind, Target};
 pub use rules::{Calls, Rule};
 pub use time_ranges::TimeRanges;
-pub use views::{BufferView, BufferViews, FaultView, TrackView, TrackViews, View};
+pub use views::{
+    Attributes, BufferAttributes, BufferView, BufferViews, FaultView, TrackView, TrackViews, View,
+};

@@ -1,5 +1,5 @@
-use crate::{StateView, TimeRanges};
-use mse_base::{Kind, OwnedList, Phase};
+use crate::{Mode, StateView, TimeRanges};
+use mse_base::{Kind, Moment, OwnedList, Phase, Span, Ticks};
 
 /// What a track buffer holds.
 #[derive(Debug, Drop)]
@@ -62,6 +62,45 @@ pub struct View {
     pub state: StateView,
     /// The buffers in the list of source buffers.
     pub buffers: BufferViews,
+    /// The first fault, if there was one.
+    pub fault: Option<FaultView>,
+}
+
+/// What a page reads of a source buffer (Media Source Extensions, 3.1, attributes), and what it holds.
+#[derive(Debug, Drop)]
+pub struct BufferAttributes {
+    /// Whether an append or a removal runs (`updating`).
+    pub updating: bool,
+    /// Whether it is in `MediaSource.activeSourceBuffers`.
+    pub active: bool,
+    /// The append mode (`mode`).
+    pub mode: Mode,
+    /// The timestamp offset (`timestampOffset`).
+    pub timestamp_offset: Ticks,
+    /// The start of the append window (`appendWindowStart`).
+    pub append_window_start: Ticks,
+    /// The end of the append window (`appendWindowEnd`).
+    pub append_window_end: Moment,
+    /// What it holds.
+    pub view: BufferView,
+}
+
+/// What a page reads of a media source and of the element that it is attached to, and the first fault.
+#[derive(Debug, Drop)]
+pub struct Attributes {
+    /// The state of the source and of the element. The duration is that of the source.
+    pub state: StateView,
+    /// The default playback start position, from which the element plays once it has metadata (HTML). Unless it is 0, a
+    /// page reads it as `currentTime`.
+    pub start_position: Ticks,
+    /// Whether playback has ended, now (HTML, "ended playback").
+    pub ended: bool,
+    /// What can be sought, from its start up to its end, both included (HTML, `seekable`).
+    pub seekable: Option<Span>,
+    /// What the element has buffered (HTML, `buffered`).
+    pub buffered: TimeRanges,
+    /// How many source buffers were ever made. Their numbers are those below it.
+    pub made: u32,
     /// The first fault, if there was one.
     pub fault: Option<FaultView>,
 }

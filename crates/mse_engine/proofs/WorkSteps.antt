@@ -7,11 +7,13 @@ use Rattle.mse_calls.specs.declared.answers.Ready.{Ready}
 use Rattle.mse_calls.specs.declared.answers.StateView.{StateView}
 use Rattle.mse_calls.specs.declared.events.Event.{Event}
 use Rattle.mse_calls.specs.declared.views.BufferView.{BufferView}
+use Rattle.mse_calls.specs.declared.views.Attributes.{Attributes}
+use Rattle.mse_calls.specs.declared.views.FaultView.{FaultView}
 use Rattle.mse_calls.specs.declared.views.View.{View}
 use Rattle.buffer_state.specs.declared.reply.Reply.{Reply}
 use Rattle.buffer_state.specs.State.{Surroundings}
 use Rattle.element_seek.specs.declared.scene.Scene.{Scene}
-use Rattle.element_seek.specs.State.{player_change}
+use Rattle.element_seek.specs.State.{has_ended, player_change}
 use Rattle.element_seek.specs.Turns.{Turn, is_seek_done, is_end_due, is_due, seek_turn, end_turn, no_turn, after_turn}
 use Rattle.source_buffers.specs.State.{BufferStates, KeptBuffers, AreSlotsStanding}
 use Rattle.source_buffers.specs.Views.{buffer_views}
@@ -21,10 +23,10 @@ use Rattle.media_element.specs.Queueing.{turn_kinds, change_by_turn, after_own_t
 use Rattle.media_element.proofs.QueuedEvents.{silent}
 use Rattle.mse_engine.specs.declared.engine.Worked.TheVariants as worked
 use Rattle.mse_engine.specs.State.{MediaSource, State, core_of, core_source}
-use Rattle.mse_engine.specs.Scenes.{core_view, scene_at, scene_with, seekable_in, span_at}
+use Rattle.mse_engine.specs.Scenes.{buffered_in, core_view, scene_at, scene_in, scene_with, seekable_in, source_view, span_at}
 use Rattle.mse_engine.specs.Calls.{state_view}
 use Rattle.mse_engine.specs.CoreEffects.{CoreEffect}
-use Rattle.mse_engine.specs.Views.{span_in, view_in}
+use Rattle.mse_engine.specs.Views.{attributes_in, span_in, view_in}
 use Rattle.mse_engine.specs.Signals.{after_signals, after_settling, step}
 use Rattle.mse_engine.specs.Replies.{media_source_after, surroundings_in, work_signals}
 use Rattle.mse_engine.specs.Work.{turn_effect, work_result, after_work, is_turn_due, after_element_turn, without_first, fire_result}
@@ -113,6 +115,27 @@ module _ (source : MediaSource) (buffers : KeptBuffers) (e : ElementState) (st :
       let told : state ≡ state_view st = shows st k.source k.element in
       let all : views ≡ buffer_views (is_ended st.source.state.ready) st.buffers = are st.buffers k.buffers ∙ ap (λ (b : Bool). buffer_views b st.buffers) end in
       λ i. record { state = told i; buffers = all i; fault = (k.source i).fault }
+
+  -- what a page reads of the source and of the element
+  pub meant_attributes : (state : StateView) (start : ℤ) (scene : Scene) (ended : Bool) (seekable : Option Span) (buffered : List Span) (made : ℕ) (fault : Option FaultView)
+      → ((s : State) → source ≡ s.source → e ≡ s.element → state ≡ state_view s)
+      → start ≡ e.player.default_start
+      → scene ≡ scene_with None e.player.position (view_of source buffers)
+      → ended ≡ has_ended scene e.player
+      → seekable ≡ seekable_in (view_of source buffers)
+      → buffered ≡ buffered_in (view_of source buffers)
+      → made ≡ source.state.made
+      → fault ≡ source.fault
+      → ◌≡◌ {A = Attributes} (record { state = state; start_position = start; ended = ended; seekable = seekable; buffered = buffered; made = made; fault = fault }) (attributes_in st)
+  meant_attributes state start scene ended seekable buffered made fault shows starts is ends can are count faulty =
+      let told : state ≡ state_view st = shows st k.source k.element in
+      let from : start ≡ st.element.player.default_start = starts ∙ ap (λ (x : ElementState). x.player.default_start) k.element in
+      let over : ended ≡ has_ended (scene_in st) st.element.player = ends ∙ ap (λ (s : Scene). has_ended s e.player) is ∙ (λ i. has_ended (scene_at (k.element i).player.position (view i)) (k.element i).player) in
+      let sought : seekable ≡ seekable_in (source_view st) = can ∙ (λ i. seekable_in (view i)) in
+      let ranges : buffered ≡ buffered_in (source_view st) = are ∙ (λ i. buffered_in (view i)) in
+      let all : made ≡ st.source.state.made = count ∙ ap (λ (s : MediaSource). s.state.made) k.source in
+      let first : fault ≡ st.source.fault = faulty ∙ ap (λ (s : MediaSource). s.fault) k.source in
+      λ i. record { state = told i; start_position = from i; ended = over i; seekable = sought i; buffered = ranges i; made = all i; fault = first i }
 
 pub turn_did : (source : MediaSource) (buffers : KeptBuffers) (e start told new : ElementState) (b : Bool) (st : State) → start ≡ e
     → b ≡ is_due (scene_with None start.player.position (view_of source buffers)) start.player → b ≡ true

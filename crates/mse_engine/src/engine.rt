@@ -9,7 +9,7 @@ ghost use Rattle.mse_engine.specs.State.{State, opening_state};
 ghost use Rattle.mse_engine.specs.Calls.{after_call};
 ghost use Rattle.mse_engine.specs.Refusals.{call_refusal};
 ghost use Rattle.mse_engine.specs.Work.{after_element_turn, after_work, is_turn_due, fire_result, running_in, has_event_in};
-ghost use Rattle.mse_engine.specs.Views.{span_in, view_in};
+ghost use Rattle.mse_engine.specs.Views.{attributes_in, buffer_attributes_in, span_in, view_in};
 ghost use Rattle.mse_engine.specs.Settled.{IsSettledState};
 ghost use Rattle.mse_engine.specs.Lists.{AreListsSame};
 ghost use Rattle.mse_engine.specs.Sound.{IsSoundEngine};
@@ -23,7 +23,10 @@ use crate::steps::{turn_by_itself, work_on};
 use crate::{element_calls, scenes};
 use media_element::Element;
 use mse_base::{Span, Ticks};
-use mse_calls::{Answer, Blobs, BufferViews, Call, Event, FaultView, Name, View};
+use mse_calls::{
+    Answer, Attributes, Blobs, BufferAttributes, BufferViews, Call, Event, FaultView, Name,
+    TimeRanges, View,
+};
 use source_buffers::SourceBuffers;
 use std::alloc::Global;
 use std::marker::Model;
@@ -198,6 +201,37 @@ impl<S: FrameStore> Engine<S> {
             buffers: BufferViews::from_vec(buffers),
             fault: self.source.fault,
         })
+    }
+
+    /// What a page reads of the source and of the element. An `Err` is want of memory.
+    pub fn attributes(&self) -> Result<Attributes, EngineFault>
+        ensures { (st : State) → Stands self.now st
+            → IfOk result (λ found. found ≡ attributes_in st) }
+    {
+        let buffered = scenes::buffered(&self.source, &self.buffers)?;
+        let seekable = scenes::seekable(&self.source, &self.buffers)?;
+        let scene = scenes::scene(&self.source, &self.buffers, &self.element, None);
+        Ok(Attributes {
+            state: element_calls::state_view(&self.source, &self.element),
+            start_position: self.element.default_start(),
+            ended: self.element.has_ended(&scene),
+            seekable,
+            buffered: TimeRanges::new(buffered),
+            made: self.source.state.made(),
+            fault: self.source.fault,
+        })
+    }
+
+    /// What a page reads of the source buffer of a number; `None` exactly where it is not in the list
+    /// of source buffers. An `Err` is want of memory.
+    pub fn buffer_attributes(&self, k: u32) -> Result<Option<BufferAttributes>, EngineFault>
+        ensures { (st : State) → Stands self.now st
+            → IfOk result (λ found. found ≡ buffer_attributes_in k st) }
+    {
+        let ended = self.source.state.ready().is_ended();
+        let active = self.source.state.active(k);
+        let found = self.buffers.attributes(k, ended, active)?;
+        Ok(found)
     }
 
     /// The track of the buffer `k` at place `i`, counted from 0 in the order of its first

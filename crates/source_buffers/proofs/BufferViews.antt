@@ -1,12 +1,13 @@
 -- The views of the buffers, one after the other.
 use Rattle.std.proofs.Common.{◌≡◌, ◌∙◌, ℕ, zero, suc, ◌+◌, ◌<◌, ◌≤◌, Bool, List, [], ◌∷◌, ◌++◌, drop, length, slice_get, refl, sym, ap, subst, arith}
-use Rattle.std.specs.Prelude.{Option, Some, None, Result, Ok, Err, OnOk}
-use Rattle.std.specs.Option.{IfSome}
+use Rattle.std.specs.Prelude.{Option, Some, None, Result, Ok, Err, IfOk, OnOk}
+use Rattle.std.specs.Option.{IfSome, option_flatten}
 use Rattle.std.proofs.lemmas.List.{append-nil, append_assoc}
+use Rattle.mse_calls.specs.declared.views.BufferAttributes.{BufferAttributes}
 use Rattle.mse_calls.specs.declared.views.BufferView.{BufferView}
 use Rattle.buffer_state.specs.State.{KeptBuffer}
 use Rattle.source_buffers.specs.State.{BufferState, BufferStates, KeptBuffers, IsSlotStanding, AreSlotsStanding}
-use Rattle.source_buffers.specs.Views.{views_from, buffer_views}
+use Rattle.source_buffers.specs.Views.{attributes_at, buffer_views, slot_attributes, views_from}
 use Rattle.source_buffers.proofs.SlotStates.{found, none_found}
 use Rattle.source_buffers.proofs.KeptParts.{same_length}
 
@@ -53,3 +54,13 @@ loop_end ks i ended views past so_far bs all =
 pub view_there_if_ok : {T E : Type 0} (ks : KeptBuffers) (i : ℕ) (k : Option KeptBuffer) (ended : Bool) (old new : List BufferView) (r : Result T E) → slice_get ks i ≡ Some k → ((s : Option BufferState) → IsSlotStanding k s → OnOk r (new ≡ old ++ views_from i ended (s ∷ []))) → (bs : BufferStates) → AreSlotsStanding ks bs → OnOk r (IfSome (slice_get bs i) (λ s. new ≡ old ++ views_from i ended (s ∷ [])))
 view_there_if_ok ks i k ended old new (Ok x) e go = view_there ks i k ended old new e go
 view_there_if_ok ks i k ended old new (Err x) e go = λ bs all. tt
+
+-- what a page reads of one buffer
+pub attributes_there : {E : Type 0} (ks : KeptBuffers) (i : ℕ) (k : Option KeptBuffer) (ended active : Bool) (r : Result (Option BufferAttributes) E) → slice_get ks i ≡ Some k → ((s : Option BufferState) → IsSlotStanding k s → IfOk r (λ found. found ≡ slot_attributes i ended active s)) → (bs : BufferStates) → AreSlotsStanding ks bs → IfOk r (λ found. found ≡ attributes_at i ended active bs)
+attributes_there ks i k ended active r e go bs all =
+    let p = found ks bs i k all e in
+    subst (λ (o : Option (Option BufferState)). IfOk r (λ found. found ≡ slot_attributes i ended active (option_flatten o))) (sym p.there) (go p.slot p.stands)
+
+pub no_attributes : (ks : KeptBuffers) (i : ℕ) (ended active : Bool) → slice_get ks i ≡ None → (bs : BufferStates) → AreSlotsStanding ks bs → None ≡ attributes_at i ended active bs
+no_attributes ks i ended active e bs all =
+    sym (ap (λ (o : Option (Option BufferState)). slot_attributes i ended active (option_flatten o)) (none_found ks bs i all e))

@@ -11,12 +11,12 @@ ghost use Rattle.source_buffers.specs.Slots.{refusal_on_buffer, refusal_on_slot,
 ghost use Rattle.source_buffers.specs.Done.{IsCallDoneInAll, IsCallDoneInSlot, IsDoneInAll, IsDoneInSlot, IsTurnDoneInAll, IsTurnDoneInSlot};
 ghost use Rattle.source_buffers.specs.All.{AreSlotsWithin, AreSound, all_buffers, are_initialized, is_updating_at, lowest_running, most_changes_of};
 ghost use Rattle.source_buffers.specs.Buffered.{buffered_at, element_ranges, element_span, track_at};
-ghost use Rattle.source_buffers.specs.Views.{buffer_views};
+ghost use Rattle.source_buffers.specs.Views.{attributes_at, buffer_views};
 
 use crate::{all, element, views};
 use buffer_state::{Buffer, BufferCall, BufferContext, Container, Reply, Turned};
 use mse_base::{OutOfMemory, Ranges, Span, Ticks};
-use mse_calls::{BufferView, Name};
+use mse_calls::{BufferAttributes, BufferView, Name};
 use source_state::AllBuffers;
 use std::alloc::Global;
 use std::marker::Model;
@@ -272,6 +272,20 @@ impl<S: FrameStore> SourceBuffers<S> {
             → IfOk result (λ views. views.items ≡ buffer_views ended bs) }
     {
         views::buffer_views(&self.slots, self.alloc, ended)
+    }
+
+    /// What a page reads of the buffer of a number, where the source is ended or not, and the buffer is active or
+    /// not; `None` exactly where no buffer is.
+    pub fn attributes(
+        &self,
+        k: u32,
+        ended: bool,
+        active: bool,
+    ) -> Result<Option<BufferAttributes>, OutOfMemory>
+        ensures { (bs : BufferStates) → AreSlotsStanding self.now.buffers bs
+            → IfOk result (λ found. found ≡ attributes_at k ended active bs) }
+    {
+        views::attributes_at(&self.slots, k, ended, active)
     }
 
     /// The `i`-th track of the buffer of a number, in order of its first initialization segment;

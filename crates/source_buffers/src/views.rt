@@ -2,12 +2,12 @@
 
 ghost use Rattle.std.specs.Prelude.{◌≡◌, ◌<◌, ◌^◌, [], ◌∷◌, ◌++◌, length, slice_get, Option, IfSome, IfOk, OnOk};
 ghost use Rattle.source_buffers.specs.State.{BufferState, BufferStates, AreSlotsStanding, IsSlotStanding};
-ghost use Rattle.source_buffers.specs.Views.{buffer_views, views_from};
+ghost use Rattle.source_buffers.specs.Views.{attributes_at, buffer_views, slot_attributes, views_from};
 
 use crate::all::slot_at;
 use buffer_state::Buffer;
 use mse_base::OutOfMemory;
-use mse_calls::BufferView;
+use mse_calls::{BufferAttributes, BufferView};
 use std::alloc::Global;
 use track_store::FrameStore;
 
@@ -63,4 +63,39 @@ pub(crate) fn buffer_views<S: FrameStore>(
         push_at(&mut views, slots, k, ended)?;
     }
     Ok(views)
+}
+
+/// What a page reads of the buffer in a slot, if there is one.
+fn slot_attributes<S: FrameStore>(
+    slot: &Option<Buffer<S>>,
+    number: u32,
+    ended: bool,
+    active: bool,
+) -> Result<Option<BufferAttributes>, OutOfMemory>
+    ensures { (s : Option BufferState) → IsSlotStanding slot.now s
+        → IfOk result (λ found. found ≡ slot_attributes number ended active s) }
+{
+    match slot {
+        Some(buffer) => {
+            let attributes = buffer.attributes(number, ended, active)?;
+            Ok(Some(attributes))
+        }
+        None => Ok(None),
+    }
+}
+
+/// What a page reads of the buffer of a number, if it is there.
+pub(crate) fn attributes_at<S: FrameStore>(
+    slots: &Vec<Option<Buffer<S>>>,
+    k: u32,
+    ended: bool,
+    active: bool,
+) -> Result<Option<BufferAttributes>, OutOfMemory>
+    ensures { (bs : BufferStates) → AreSlotsStanding slots.now.items bs
+        → IfOk result (λ found. found ≡ attributes_at k ended active bs) }
+{
+    match slot_at(slots, k as usize) {
+        Some(slot) => slot_attributes(slot, k, ended, active),
+        None => Ok(None),
+    }
 }
