@@ -25,6 +25,7 @@ mod words;
 pub use fault::{ScriptError, ScriptFault};
 pub use key::ScriptKey;
 pub use laws::{numbers_are_as_printed, printed_calls_read_back};
+pub use lines::read_step;
 pub use numbers::read_index;
 pub use reading::read_script;
 pub use script::{BlobText, BlobTexts, Rules, Script, StepLine, StepLines};

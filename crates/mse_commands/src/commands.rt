@@ -48,9 +48,10 @@ const QUOTA: u64 = 1 << 62;
 /// How many bytes each append of a made file has.
 const MADE_PIECE: usize = 1000;
 
-/// What closes a run that went through, behind a text.
+/// Puts a text and then what closes a run that went through: `whole` is false for the run of a file, whose block does not
+/// show the state. After an `Err` a front of it was put.
 #[tactic(auto, using(script_run::proofs::PutLines::front_none))]
-fn close<S: FrameStore, K: Sink>(
+pub fn close<S: FrameStore, K: Sink>(
     alloc: Global,
     engine: &Engine<S>,
     sink: &mut K,

@@ -20,5 +20,6 @@ mod text;
 mod top;
 mod words;
 
+pub use commands::close;
 pub use ending::Status;
 pub use top::run;

@@ -1,2 +1,5 @@
+mod Answered
 mod Calls
+mod Handles
+mod Puts
 mod Texts

@@ -1,7 +1,10 @@
 //! The program in one call of C: [`mseplay_run`] does what a run of the program does, with words, files and the room
 //! for what is printed in the caller's memory.
 //!
-//! It stands on `rule_run`, and hands in the caller's files, the number of listeners, and the store of `track_index`.
+//! Sessions do a script's steps one at a time, by a handle (`sessions.rt`).
+//!
+//! It stands on `rule_run` and `live_session`, and hands in the caller's files, the number of listeners, and the store of
+//! `track_index`; a handle stands on `loose_box`.
 //! It is a static library, on which no crate can stand; `clients/c/mseplay.h` declares for C what is public here.
 #![tactic(auto)]
 
@@ -13,12 +16,19 @@ ghost use Rattle.mseplay_c.specs.Calls.{IsCall};
 ghost use Rattle.mseplay_c.specs.Given.{files_in, words_in};
 
 mod files;
+mod handle;
+mod look;
+#[cfg(test)]
+mod look_tests;
 mod put;
+mod sessions;
 #[cfg(test)]
 mod tests;
 mod words;
 
 use crate::files::GivenFiles;
+pub use crate::handle::Handle;
+pub use crate::look::{BufferLook, Fault, Look, TickNumber, TickRange, Time, TrackLook};
 use crate::put::put;
 use crate::words::read_words;
 use mse_base::OutOfMemory;

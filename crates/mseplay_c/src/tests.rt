@@ -1,5 +1,7 @@
 //! Calls as C makes them.
 
+use crate::handle::Handle;
+use crate::sessions::{mseplay_block, mseplay_close, mseplay_give, mseplay_open, mseplay_step};
 use crate::{ByteSlice, File, mseplay_run};
 use std::alloc::Global;
 
@@ -70,4 +72,46 @@ fn prints_into_the_room(rt: HostRuntime) {
     for (i, row) in CALLS.iter().enumerate() {
         assert!(rt; is_made(rt.alloc(), row), "call {i}");
     }
+}
+
+/// A line of a session, and what it prints.
+const STEPS: [(&[u8], u8, &[u8]); 6] = [
+    (b"attach", 0, b"call attach: done\n"),
+    (b"add video/mp4", 0, b"call add video/mp4: done\n"),
+    (b"append 0 0", 8, b""),
+    (b"nothing", 2, b""),
+    (b"fire", 0, b"event source sourceopen\n"),
+    (b"fire", 0, b"event sourcebuffers addsourcebuffer\n"),
+];
+
+fn is_stepped(handle: &mut Handle, alloc: Global, row: &(&[u8], u8, &[u8])) -> bool {
+    let mut room = [0u8; 200];
+    let mut written = 0;
+    let mut refused = 0;
+    let status = mseplay_step(alloc, handle, row.0, &mut room, &mut written, &mut refused);
+    status == row.1 && written == row.2.len() && room.starts_with(row.2)
+}
+
+#[test]
+fn steps_one_at_a_time(rt: HostRuntime) {
+    let alloc = rt.alloc();
+    let mut handle = Handle::none(alloc);
+    assert!(rt; mseplay_open(alloc, 1000000, 0, &mut handle) == 0);
+    for (i, row) in STEPS.iter().enumerate() {
+        assert!(rt; is_stepped(&mut handle, alloc, row), "step {i}");
+    }
+    assert!(rt; mseplay_give(alloc, &mut handle, b"abcd") == 0);
+    assert!(rt;
+        is_stepped(
+            &mut handle,
+            alloc,
+            &(b"append 0 0", 0, b"call append 0 0: done\n")
+        )
+    );
+    let mut room = [0u8; 1000];
+    let mut written = 0;
+    let status = mseplay_block(alloc, &mut handle, &mut room, &mut written);
+    assert!(rt; status == 0 && room.starts_with(b"state source open "));
+    mseplay_close(alloc, &mut handle);
+    assert!(rt; mseplay_give(alloc, &mut handle, b"abcd") == 10);
 }

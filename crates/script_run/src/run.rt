@@ -60,6 +60,20 @@ impl<S: FrameStore> ScriptRun<S> {
         &self.engine
     }
 
+    /// The journal.
+    pub fn journal(&self) -> &Journal
+        ensures { result.now.entries ≡ self.now.entries }
+    {
+        &self.journal
+    }
+
+    /// Forgets the journal, and gives back its memory. The engine stays.
+    pub fn forget(&mut self)
+        ensures { self.new ≡ record self.old { entries = [] } }
+    {
+        self.journal = Journal::new(self.alloc);
+    }
+
     /// The engine and the journal.
     pub fn into_parts(self) -> (Engine<S>, Journal)
         ensures engine { result.0 ≡ self.engine }

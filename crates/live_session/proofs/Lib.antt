@@ -1,0 +1,10 @@
+pub mod OneStep
+pub mod OwnBytes
+pub mod MoreBytes
+pub mod LastRefusals
+pub mod Silence
+pub mod MoreSteps
+pub mod PlayedSessions
+pub mod NextLines
+pub mod StepTexts
+pub mod DrainLines
