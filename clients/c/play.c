@@ -2,52 +2,21 @@
  *
  *     play SCRIPT [FILE..]
  *
- * The files are those that the script names. All of them are read into memory before the call, and freed when the program
- * ends. A file that cannot be read is told on standard error. */
+ * The files are those that the script names. All of them are read into memory before the call. A file that cannot be
+ * read is told on standard error. */
 #include <stdio.h>
 #include <stdlib.h>
 #include <string.h>
 
 #include "mseplay.h"
+#include "read.h"
 
-static void stop(const char *why, const char *name, int status)
-{
-    fprintf(stderr, "play: %s%s\n", why, name);
-    exit(status);
-}
+const char program_name[] = "play";
 
 static struct mseplay_byte_slice text(const char *word)
 {
     struct mseplay_byte_slice bytes = {(const uint8_t *)word, strlen(word)};
     return bytes;
-}
-
-/* Room for at least one byte, so that its pointer is never null. */
-static void *room_for(void *old, size_t size)
-{
-    void *room = realloc(old, size != 0 ? size : 1);
-    if (room == NULL)
-        stop("no memory", "", 5);
-    return room;
-}
-
-static struct mseplay_byte_slice contents(const char *name)
-{
-    size_t length = 0, size = 4096, count;
-    uint8_t *bytes = room_for(NULL, size);
-    FILE *file = fopen(name, "rb");
-    if (file == NULL)
-        stop("no file ", name, 8);
-    while ((count = fread(bytes + length, 1, size - length, file)) != 0) {
-        length += count;
-        if (length == size)
-            bytes = room_for(bytes, size *= 2);
-    }
-    if (ferror(file))
-        stop("cannot read ", name, 3);
-    fclose(file);
-    struct mseplay_byte_slice all = {bytes, length};
-    return all;
 }
 
 int main(int count, char **names)
@@ -72,5 +41,9 @@ int main(int count, char **names)
     size_t length = written < size ? written : size;
     if (fwrite(room, 1, length, stdout) != length || fflush(stdout) != 0)
         stop("cannot write", "", 4);
+    free(room);
+    for (size_t i = 0; i < file_count; i++)
+        free_contents(files[i].bytes);
+    free(files);
     return status;
 }

@@ -8,32 +8,14 @@ import tempfile
 from pathlib import Path
 
 import kit
-
-C = kit.CLIENTS / "c"
-sys.path.insert(0, str(C))
-
-import mseplay  # noqa: E402
+from c_kit import C, HEAP, READ, archive_and_compiler, build, by_program, mseplay
 
 SMALL = b'steps = ["attach", "add video/mp4", "append 0 0", "drain", "buffered 0"]\nblobs = ["file plain.mp4"]\n'
-
-
-def archive_and_compiler():
-    """The library and a C compiler, or a skip that says which is missing."""
-    try:
-        return mseplay.archive(), mseplay.compiler()
-    except FileNotFoundError as error:
-        raise kit.Skip(str(error)) from error
 
 
 def files_of(script):
     """The names of the files that a script of examples/ names."""
     return re.findall(r'"file ([^"]+)"', (kit.EXAMPLES / script).read_text())
-
-
-def by_program(words, folder=kit.EXAMPLES):
-    """What the program does: its status, and what it prints."""
-    done = subprocess.run([kit.program(), *words], cwd=folder, stdout=subprocess.PIPE, timeout=120)
-    return done.returncode, done.stdout
 
 
 def processor_seconds():
@@ -43,14 +25,12 @@ def processor_seconds():
 
 def test_program_in_c():
     """play.c prints of each script of examples/ what the program prints, and ends with its status."""
-    archive, compiler = archive_and_compiler()
+    archive_and_compiler()
     kit.program()
     scripts = sorted(path.name for path in kit.EXAMPLES.glob("*.toml"))
     assert scripts
     with tempfile.TemporaryDirectory() as folder:
-        path = Path(folder) / "play"
-        subprocess.run([compiler, "-std=c99", "-Wall", "-Wextra", "-Werror", "-O2", "-o", path,
-                        C / "play.c", C / "heap.c", archive], check=True)
+        path = build(Path(folder) / "play", C / "play.c", READ, HEAP)
         for script in scripts:
             done = subprocess.run([path, script, *files_of(script)], cwd=kit.EXAMPLES,
                                   stdout=subprocess.PIPE, timeout=120)
