@@ -2,12 +2,13 @@
 """Tries the clients of this folder.
 
     ./check.py               runs every test of tests/test_*.py
-    ./check.py view          runs those of tests/test_view.py
-    ./check.py view.dark     runs those whose name has these letters
+    ./check.py page_use      runs those of tests/test_page_use.py
+    ./check.py page_use.dark runs those whose name has these letters
 
 A test that needs what is not installed is skipped, and its line says what is
 missing. The tests that run the program take its path from the environment
-variable MSEPLAY, else crates/mseplay/out/mseplay.
+variable MSEPLAY, else crates/mseplay/out/mseplay, else that of
+bench/unproved.py, mseplay-unproved at the top.
 
 The status is 1 where a test failed, and 2 where no test has the name asked for.
 """

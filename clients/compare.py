@@ -6,7 +6,7 @@
     compare.py ARCHIVE            recording.zip of record.js, which has both
 
 The program is run in the folder of the script. Its path is that of the environment variable MSEPLAY, else
-crates/mseplay/out/mseplay.
+crates/mseplay/out/mseplay, else that of bench/unproved.py, mseplay-unproved at the top.
 
 Compared are the calls in their order, their answers, the events of each target in their order, and what is there in the
 end; times to 3 microseconds. Where an event of one target comes before or behind one of another is shown and not
@@ -34,6 +34,8 @@ sys.path.insert(0, str(Path(__file__).resolve().parent))
 import known  # noqa: E402
 
 TOP = Path(__file__).resolve().parent.parent
+# Where the program is looked for: proved, else unproved.
+BUILT = [TOP / "crates/mseplay/out/mseplay", TOP / "mseplay-unproved"]
 ANSWER = r"(done|refused \w+|ranges .*|range .*|source .*)"
 STATE = ("source", "duration", "level", "position", "paused", "seeking", "error")
 
@@ -454,9 +456,9 @@ def report(run, pairs, found, width=None):
 
 def program_path():
     named = os.environ.get("MSEPLAY")
-    path = Path(named) if named else TOP / "crates/mseplay/out/mseplay"
+    path = Path(named) if named else next(filter(Path.is_file, BUILT), BUILT[0])
     if not path.is_file():
-        raise NotCompared(f"no program at {path}: build it with `rt run` in crates/mseplay, "
+        raise NotCompared(f"no program at {path}: build it with `rt run` in crates/mseplay or by bench/unproved.py, "
                           "or give its path in MSEPLAY")
     return str(path.resolve())
 

@@ -9,7 +9,7 @@
 
 A test that shows a page:
 
-    page = kit.open_page(kit.CLIENTS / "view.html")
+    page = kit.open_page(kit.CLIENTS / "mseplay.html")
     page.evaluate("1 + 1")                    # 2, anything that JSON can say
     page.press("ArrowRight")                  # a key, as a person presses it
     page.press("Tab", shift=True)
@@ -41,6 +41,8 @@ TESTS = Path(__file__).resolve().parent
 CLIENTS = TESTS.parent
 REPOSITORY = CLIENTS.parent
 EXAMPLES = REPOSITORY / "crates/case_runs/data"
+# Where the program is looked for: proved, else unproved.
+BUILT = [REPOSITORY / "crates/mseplay/out/mseplay", REPOSITORY / "mseplay-unproved"]
 
 
 class Skip(Exception):
@@ -53,9 +55,9 @@ class Skip(Exception):
 def program():
     """The path of `mseplay`, or a skip that says how to get one."""
     named = os.environ.get("MSEPLAY")
-    path = Path(named or REPOSITORY / "crates/mseplay/out/mseplay").resolve()
+    path = Path(named or next(filter(Path.is_file, BUILT), BUILT[0])).resolve()
     if not (path.is_file() and os.access(path, os.X_OK)):
-        raise Skip(f"no program at {path}: build it with `rt run` in crates/mseplay, "
+        raise Skip(f"no program at {path}: build it with `rt run` in crates/mseplay or by bench/unproved.py, "
                    "or give its path in MSEPLAY")
     return str(path)
 

@@ -1,4 +1,4 @@
-"""Reads what `mseplay` printed, for the tests of view.html: by itself, and not as the page does.
+"""Reads what `mseplay` printed, for the tests of mseplay.html: by itself, and not as the page does.
 
 A text is a list of lines, each a list of words. `known(lines, index)` is what the lines up to one of them have told.
 """

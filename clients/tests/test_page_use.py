@@ -1,4 +1,4 @@
-"""view.html in use: the keyboard alone, light and dark, paper, narrow gaps, long texts, and nothing that leaves the page."""
+"""mseplay.html in use: the keyboard alone, light and dark, paper, narrow gaps, long texts, and nothing that leaves the page."""
 
 import random
 import tempfile
@@ -7,7 +7,7 @@ from pathlib import Path
 
 import kit
 import printed
-from test_view import SHOWN, VIEW, check_items, rgb, show, show_text, snapshot
+from test_page_text import SHOWN, VIEW, check_items, rgb, show, show_text, snapshot
 
 FOCUS = """(() => {
   const at = document.activeElement, style = getComputedStyle(at);
@@ -123,7 +123,7 @@ def test_times_to_copy():
     for ticks in [0, 1, -1, 3, 141120, 4704000000, 18063360000, 141120000000, 10**20 + 1, 2**110]:
         show_text(page, f"duration {ticks}\nbuffer 0 phase waiting held 0 used 0 buffered none\n" if ticks >= 0 else
                   f"feed 0 1 at {ticks} wanted 0\nframe 0 pts {ticks} dts 0 dur 1 bytes 1 sync true\nend Wait\nfeed 0 1 at {ticks + 1} none\n")
-        page.evaluate("goTo(0)")
+        page.evaluate("mseplay.goTo(0)")
         page.wait_for("document.querySelector('.line.chosen')?.dataset.number === '1'")
         copies = page.evaluate("[...document.querySelectorAll('#times tbody tr:first-child .copy')].map(button => button.dataset.copy)")
         assert copies[0] == str(ticks), copies
@@ -185,7 +185,7 @@ def test_light_and_dark():
         check_contrast(page, f"first screen, {scheme}")
         for name in ["stall.txt", "ape.txt", "abort.txt", "cut.mp4.txt", "listener-remove.txt", "two-buffers.txt", "gap.mp4.txt", "feed.txt"]:
             show(page, kit.EXAMPLES / name)
-            page.evaluate("goTo(Math.min(8, page.story.lines.length - 1))")
+            page.evaluate("mseplay.goTo(Math.min(8, mseplay.page.story.lines.length - 1))")
             page.evaluate("new Promise(done => setTimeout(done, 50))")
             least[scheme] = min(least.get(scheme, 99), check_contrast(page, f"{name}, {scheme}"))
         drop_script(page)
@@ -200,7 +200,7 @@ def test_light_and_dark():
 
 
 def drop_script(page):
-    page.drop("header", kit.EXAMPLES / "stall.toml")
+    page.call("(text, name) => mseplay.askOf(text, name)", (kit.EXAMPLES / "stall.toml").read_text(), "stall.toml")
     page.wait_for("document.querySelector('#asked').offsetHeight > 50")
 
 
@@ -244,7 +244,8 @@ MEETING_WORDS = """(() => {
   for (const lane of document.querySelectorAll(".lane")) {
     const words = [...lane.querySelectorAll(".gap-word, .flag, .mark span")].map(word => [word.textContent, word.getBoundingClientRect()]).filter(([, box]) => box.width);
     words.sort((a, b) => a[1].left - b[1].left);
-    for (let at = 1; at < words.length; at++) if (words[at][1].left < words[at - 1][1].right - 0.5) found.push(`${words[at - 1][0]} / ${words[at][0]}`);
+    const meet = (a, b) => a.left < b.right - 0.5 && b.left < a.right - 0.5 && a.top < b.bottom - 2 && b.top < a.bottom - 2;
+    words.forEach(([one, a], at) => words.slice(at + 1).forEach(([two, b]) => { if (meet(a, b)) found.push(`${one} / ${two}`); }));
     const room = lane.getBoundingClientRect();
     for (const [text, box] of words) if (box.right > room.right + 2 || box.left < room.left - 2) found.push(`${text} leaves its lane`);
   }
@@ -255,7 +256,7 @@ MEETING_WORDS = """(() => {
 def test_no_words_meet():
     """In every output, wide and narrow, no label lies over another and no part over another."""
     page = kit.open_page(VIEW)
-    for width in (1280, 700):
+    for width in (1280, 700, 414, 360, 320):
         page.size(width, 800)
         for path in printed.outputs():
             show(page, path)
@@ -446,7 +447,7 @@ def test_long_play_is_right():
     page = kit.open_page(VIEW)
     show_text(page, "\n".join(lines) + "\n")
     for index in [0, 17, 5000, 12_345, 19_993, 19_999]:
-        page.evaluate(f"goTo({index})")
+        page.evaluate(f"mseplay.goTo({index})")
         page.wait_for(f"document.querySelector('.line.chosen')?.dataset.number === '{index + 1}'")
         shot = snapshot(page)
         told = printed.known(lines, index)
@@ -457,7 +458,7 @@ def test_long_play_is_right():
 
 
 def test_nothing_leaves_the_page():
-    """No request but the page itself, and none is allowed."""
+    """No request but the page itself and its worker, which it makes, and none is allowed."""
     page = kit.open_page(VIEW)
     asked = []
     page.ask("Network.enable")
@@ -468,16 +469,5 @@ def test_nothing_leaves_the_page():
         show(page, kit.EXAMPLES / name)
     refused = page.evaluate("fetch('https://example.org/').then(() => 'sent', () => 'refused')")
     assert refused == "refused"
-    assert {address for address in asked if not address.startswith(("data:", "https://example.org/"))} == {VIEW.as_uri()}, asked
+    assert {address for address in asked if not address.startswith(("data:", "blob:", "https://example.org/"))} == {VIEW.as_uri()}, asked
     page.close()
-
-
-def test_pictures_of_the_guide():
-    """The three pictures are there, in the guide, and not large."""
-    guide = (kit.REPOSITORY / "docs/GUIDE.md").read_text()
-    pictures = sorted((kit.REPOSITORY / "docs/pictures").glob("view-*.png"))
-    assert len(pictures) == 3, pictures
-    for path in pictures:
-        data = path.read_bytes()
-        assert data[:8] == b"\x89PNG\r\n\x1a\n" and len(data) < 200_000, f"{path.name} has {len(data)} bytes"
-        assert f"(pictures/{path.name})" in guide, f"docs/GUIDE.md does not show {path.name}"

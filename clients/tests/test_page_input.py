@@ -1,4 +1,4 @@
-"""view.html and what comes in: bad input gets a sentence and loses nothing, and a script is written anew with questions."""
+"""mseplay.html and what comes in: bad input gets a sentence and loses nothing, and a script is written anew with questions."""
 
 import json
 import re
@@ -8,7 +8,7 @@ from pathlib import Path
 
 import kit
 import printed
-from test_view import SHOWN, VIEW, show, show_text, snapshot
+from test_page_text import SHOWN, VIEW, show, show_text, snapshot
 
 SAYS = 'document.querySelector("#says:not([hidden])")?.innerText ?? ""'
 NOTICES = 'document.querySelector("#notices:not([hidden])")?.innerText ?? ""'
@@ -41,8 +41,6 @@ BAD = [
     ("data.json", b'{"steps": ["attach"],\n "duration": 3}\n', "looks like JSON"),
     ("letter.txt", "Dear reader,\nthis is no output.\n".encode(), "has no line that mseplay prints. Its first is “Dear reader,”"),
     ("long.txt", b"x" * 3_000_000, "has no line that mseplay prints"),
-    ("script.toml", b'blobs = ["file a.mp4"]\nsteps = ["attach"]\n', "is a script, and not what mseplay printed"),
-    ("broken.toml", b'steps = ["attach', "is a script, and not what mseplay printed"),
 ]
 
 
@@ -52,8 +50,8 @@ def test_bad_input_gets_a_sentence():
         words = drop_bytes(page, name, data)
         assert words.startswith(name) and sentence in words, f"{name}: {words}"
         assert page.evaluate("document.querySelector('#start').offsetHeight") > 100, f"{name}: an empty page"
-    words = drop_bytes(page, "plain.mp4", (kit.EXAMPLES / "plain.mp4").read_bytes())
-    assert "plain.mp4 is an MP4 file itself. Run mseplay ranges plain.mp4" in words, words
+    words = drop_bytes(page, "list.mpd", b"<?xml version='1.0'?><MPD/>")
+    assert "list.mpd is a playlist, which names segments" in words, words
     assert not page.errors, page.errors
     page.close()
 
@@ -96,7 +94,7 @@ def test_cut_and_strange_lines():
     assert "5 lines of feed are left out" in notices_of(page, feed.split("\n", 2)[2])
     assert "22 lines of feed are left out" in notices_of(page, feed + stall)
     assert page.evaluate("document.querySelectorAll('#lines .line').length") == 33
-    page.call("text => take(text, 'frames.txt', true)", "\n".join(feed.split("\n")[1:6]) + "\n")
+    page.call("text => mseplay.take(text, 'frames.txt', true)", "\n".join(feed.split("\n")[1:6]) + "\n")
     assert "frames.txt: 5 lines of feed are left out" in said(page)
     assert notices_of(page, "track 0 1 audio mp4a frames 3 ranges [0,9)\n").startswith("The text has no line duration")
     block = (kit.EXAMPLES / "gap.mp4.txt").read_text()
@@ -161,11 +159,10 @@ def test_paste_choose_and_type():
     page.click("#show")
     page.wait_for(SHOWN)
     assert len(snapshot(page)["rows"]) == 2
-    for example, title in [("gap", "A gap"), ("stall", "Playback"), ("feed", "Frames")]:
+    for example in ["pieces", "seek-into-a-gap"]:
         page.go(VIEW)
         page.click(f"[data-example={example}]")
-        page.wait_for(SHOWN)
-        assert page.evaluate("document.title").startswith(title)
+        page.wait_for(f"{SHOWN} && document.title.startsWith('{example}.toml')")
     assert not page.errors, page.errors
     page.close()
 
@@ -174,12 +171,11 @@ def test_paste_choose_and_type():
 
 
 def asked(page, path):
-    """The script anew, as the page writes it of a file that is dropped."""
-    page.evaluate("script.asked = ''; document.querySelector('#says').hidden = true; document.querySelector('#asked').hidden = true")
-    page.drop("header", path)
-    said(page)
-    assert page.evaluate("document.querySelector('#asked').offsetHeight") > 50, path.name
-    return page.evaluate("script.asked")
+    """The script anew, as the page writes it."""
+    page.evaluate("mseplay.asked.asked = ''; document.querySelector('#asked').hidden = true")
+    page.call("(text, name) => mseplay.askOf(text, name)", path.read_bytes().decode(), path.name)
+    page.wait_for("document.querySelector('#asked').offsetHeight > 50")
+    return page.evaluate("mseplay.asked.asked")
 
 
 def questions_behind(script):
@@ -269,6 +265,10 @@ times = 2
 '''
 
 
+def ask(page, path):
+    page.call("(text, name) => mseplay.askOf(text, name)", path.read_text(), path.name)
+
+
 def test_toml_in_all_ways():
     page = kit.open_page(VIEW)
     with tempfile.TemporaryDirectory() as folder:
@@ -282,16 +282,16 @@ def test_toml_in_all_ways():
         crlf = asked(page, path)
         assert crlf.count("\n") == crlf.count("\r\n") > TOML.count("\n")
         path.write_text('steps = [\n  "attach",\n  "append 0 0\n]\n')
-        page.drop("header", path)
+        ask(page, path)
         page.wait_for("document.querySelector('#script-says').innerText.includes('line 3: a text that does not end')")
         path.write_text("quota = 7\n")
-        page.drop("header", path)
+        ask(page, path)
         page.wait_for("document.querySelector('#script-says').innerText.includes('it has no key steps')")
         page.evaluate("document.querySelector('#script-says').innerText = ''")
         path.write_text("steps = [" + ", ".join(['"attach"'] * 40000) + "]\n")
-        page.drop("header", path)
+        ask(page, path)
         page.wait_for("document.querySelector('#script-says').innerText.includes('at most 100,000 steps')")
-        steps = tomllib.loads(page.evaluate("script.asked"))["steps"]
+        steps = tomllib.loads(page.evaluate("mseplay.asked.asked"))["steps"]
         assert 99990 <= len(steps) <= 100000 and steps.count("attach") == 40000
     assert not page.errors, page.errors
     page.close()
@@ -301,7 +301,7 @@ def test_copy_and_save():
     page = kit.open_page(VIEW, before="navigator.clipboard.writeText = async text => { window.copied = text; };")
     new = asked(page, kit.EXAMPLES / "stall.toml")
     page.click("#copy-asked")
-    page.wait_for("window.copied === script.asked")
+    page.wait_for("window.copied === mseplay.asked.asked")
     with tempfile.TemporaryDirectory() as folder:
         page.browser.ask("Browser.setDownloadBehavior", behavior="allow", downloadPath=folder, browserContextId=page.context)
         page.click("#save-asked")

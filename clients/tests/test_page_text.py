@@ -1,4 +1,4 @@
-"""view.html over every output of examples/README.md: what is drawn is compared with the text, which printed.py reads by itself."""
+"""mseplay.html over every output of examples/README.md: what is drawn is compared with the text, which printed.py reads by itself."""
 
 import html
 import itertools
@@ -12,7 +12,7 @@ from pathlib import Path
 import kit
 import printed
 
-VIEW = kit.CLIENTS / "view.html"
+VIEW = kit.CLIENTS / "mseplay.html"
 NUMBERS = itertools.count(1)
 SHOWN = 'document.body.dataset.state === "shown"'
 
@@ -65,7 +65,7 @@ def show(page, path):
 def show_text(page, text):
     """Shows a text, as where it is pasted, and waits until it is shown."""
     name = f"text {next(NUMBERS)}"
-    page.call("(text, name) => take(text, name, true)", text, name)
+    page.call("(text, name) => mseplay.take(text, name, true)", text, name)
     page.wait_for(f"{SHOWN} && document.title.startsWith({json.dumps(name + ' ')})")
 
 
@@ -425,7 +425,7 @@ def test_faults_have_their_rows():
 def test_all_links():
     """Every link that the page can show leads somewhere, and every row of the tables of faults is in the page word for word."""
     page = kit.open_page(VIEW)
-    faults = page.evaluate("FAULTS")
+    faults = page.evaluate("mseplay.FAULTS")
     for name, rows in rows_of_faults().items():
         assert faults.pop(name)[:2] == rows, f"fault {name} differs from docs/SCRIPTS.md"
     assert not faults, f"faults that docs/SCRIPTS.md does not have: {list(faults)}"
@@ -434,14 +434,14 @@ def test_all_links():
         show_text(page, line + "\n")
         assert page.evaluate("document.querySelectorAll('#faults a').length") == links, line
     source = VIEW.read_text()
-    for name in page.evaluate("Object.keys(FAULTS)"):
-        words, heading = page.call("name => [FAULTS[name][2], Number(name) > 20 ? 'a-classic-file-as-fragments' : 'faults']", name)
-        check_link(page.call("(heading, words) => linkToWords('SCRIPTS.md', heading, words, '').getAttribute('href')", heading, words))
+    for name in page.evaluate("Object.keys(mseplay.FAULTS)"):
+        words, heading = page.call("name => [mseplay.FAULTS[name][2], Number(name) > 20 ? 'a-classic-file-as-fragments' : 'faults']", name)
+        check_link(page.call("(heading, words) => mseplay.linkToWords('SCRIPTS.md', heading, words, '').getAttribute('href')", heading, words))
     for address in re.findall(r'"((?:SCRIPTS|GUIDE|MACHINE)\.md[^"$]*)"', source):
         check_link("../docs/" + address)
-    for heading in page.evaluate("[...new Set(ERRORS.map(([, , heading]) => heading))]"):
+    for heading in page.evaluate("[...new Set(mseplay.ERRORS.map(([, , heading]) => heading))]"):
         check_link(f"../docs/SCRIPTS.md#{heading}")
-    for heading in page.evaluate("[...new Set(Object.values(CALLS).map(([, heading]) => heading))]"):
+    for heading in page.evaluate("[...new Set(Object.values(mseplay.CALLS).map(([, heading]) => heading))]"):
         check_link(f"../docs/MACHINE.md#{heading}")
     page.close()
 
@@ -454,17 +454,10 @@ def rows_of_faults():
     for line in (part("Faults") + part("A classic file as fragments")).splitlines():
         front = {"`Init` is": "Init ", "`Moof` is": "Moof "}.get(line[:9], front)
         cells = [cell.strip() for cell in line.strip("|").split("|")] if line.startswith("| ") else []
+        plain = [cell.replace("`", "") for cell in cells]
         if len(cells) == 4 and cells[0].isdigit():
-            rows[cells[0]] = cells[2:]
+            rows[cells[0]] = plain[2:]
         elif len(cells) == 3 and cells[0].startswith("`"):
             for name in re.findall(r"`([^`]+)`", cells[0]):
-                rows[front + name.replace(" BOX", "")] = cells[1:]
+                rows[front + name.replace(" BOX", "")] = plain[1:]
     return rows
-
-
-def test_examples_in_the_page():
-    """The three texts that the first screen offers are those of examples/README.md."""
-    source = VIEW.read_text()
-    for name, file in [("gap", "gap.mp4.txt"), ("stall", "stall.txt"), ("feed", "feed.txt")]:
-        found = re.search(rf'<script type="text/plain" id="example-{name}">\n(.*?)</script>', source, re.S)
-        assert html.unescape(found[1]) == (kit.EXAMPLES / file).read_text(), file
