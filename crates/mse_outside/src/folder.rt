@@ -1,41 +1,43 @@
 //! The files of a folder.
 
-ghost use Rattle.std.specs.Prelude.{◌≡◌, ◌≢◌, ◌<◌, ◌≤◌, ◌+◌, ◌^◌, ◌↔◌, ℕ, None, IfSome, OnOk, length, vec_len};
+ghost use Rattle.std.specs.Prelude.{◌≡◌, ◌≢◌, ◌≤◌, ◌+◌, ◌^◌, ◌↔◌, IfSome, option_map, vec_len};
 ghost use Rattle.std.specs.IoError.{error_kind};
-ghost use Rattle.mse_outside.specs.Outside.{HasBytesAppended};
+ghost use Rattle.mse_outside.specs.Counted.{Counted};
 ghost use Rattle.mse_outside.specs.Folder.{faults_after};
-ghost use Rattle.mse_outside.specs.Reading.{IsReadToEnd, IsFrontAppended, answer_to_read};
+ghost use Rattle.mse_outside.specs.Outside.{HasBytesAppended, IsLoadEffect};
+ghost use Rattle.mse_outside.specs.Reading.{IsReadThrough, answer_to_read};
+ghost use Rattle.mse_outside.specs.Source.{IsFolderLoad, StaysTold, bytes_in, table_in};
 
-use crate::{Library, Loaded};
-use std::fs::{self, Files};
-use std::io::{self, ErrorKind, Read};
+use crate::{FileSource, Library, Loaded, OpenFile};
+use std::io::{self, ErrorKind};
 use std::marker::Model;
 
 /// The most bytes that a file may have.
 const LONGEST: usize = 1 << 30;
 
-/// The files of the current folder. It tells no bytes. Contracts see the number of loads that have failed.
+/// The files of a source, as [`SystemFiles`](crate::SystemFiles). It tells their bytes where the source does. Contracts see
+/// the source, and how many loads have failed.
 ///
 /// A file that is not there is `NoFile`. Any other failure to open or to read, as at a folder, and a file of more than
 /// 2^30 bytes, is a failed load.
 #[derive(Drop)]
-pub struct FolderLibrary<R: Files + Drop> {
-    rt: R,
+pub struct FolderLibrary<F: FileSource + Drop> {
+    source: F,
     faults: u64,
 }
 
-impl<R: Files + Drop> Model for FolderLibrary<R> {
-    ghost Value = { ℕ };
+impl<F: FileSource + Drop> Model for FolderLibrary<F> {
+    ghost Value = { Counted F };
 
-    ghost view = { λ l. l.faults };
+    ghost view = { λ l. record { over = l.source; faults = l.faults } };
 }
 
-impl<R: Files + Drop> FolderLibrary<R> {
+impl<F: FileSource + Drop> FolderLibrary<F> {
     /// No load has failed yet.
-    pub fn new(rt: R) -> FolderLibrary<R>
-        ensures { result ≡ 0 }
+    pub fn new(source: F) -> FolderLibrary<F>
+        ensures { result ≡ record { over = source; faults = 0 } }
     {
-        FolderLibrary { rt, faults: 0 }
+        FolderLibrary { source, faults: 0 }
     }
 }
 
@@ -58,7 +60,7 @@ fn answer_for_error(error: &io::Error) -> Loaded
 pub(crate) enum ReadStop {
     /// It has more bytes than it may.
     TooLong,
-    /// The reader failed, and neither was interrupted nor wanted memory.
+    /// A read failed. It was not interrupted, and did not lack memory.
     Reader(ErrorKind),
     /// There was no memory for what it has.
     OutOfMemory,
@@ -66,23 +68,20 @@ pub(crate) enum ReadStop {
     Endless,
 }
 
-/// Appends what is left of a file, if that is at most so many bytes.
-pub(crate) fn append_all<F: Read>(
+/// Appends what is left of a file, if that is at most so many bytes. An interrupted read is done again.
+pub(crate) fn append_all<F: OpenFile>(
     file: &mut F,
     into: &mut Vec<u8>,
     most: usize,
 ) -> Result<(), ReadStop>
-    ensures whole { OnOk result (IsReadToEnd most
-        (F.remaining file.old) into.old.items into.new.items) }
-    ensures too_long { result ≡ Err ReadStop.TooLong →
-        IfSome (F.remaining file.old) (λ bytes. most < length bytes) }
-    ensures front { IsFrontAppended (F.remaining file.old) into.old.items into.new.items }
+    ensures told { IfSome (F.left file.old) (λ left.
+        IsReadThrough most left into.old.items into.new.items result) }
     ensures appends { HasBytesAppended into.old.items into.new.items }
     ensures longest { vec_len into.new ≤ vec_len into.old + most }
 {
     let mut piece = [0u8; 4096];
     let mut len = 0usize;
-    for _ in 0..u64::MAX {
+    for turn in 0..u64::MAX {
         match file.read(&mut piece) {
             Ok(0) => return Ok(()),
             Ok(count) => {
@@ -115,6 +114,20 @@ fn answer_for_read(outcome: &Result<(), ReadStop>) -> Loaded
     }
 }
 
+/// Opens the file of this name, and appends its bytes.
+fn append_file<F: FileSource>(source: &mut F, name: &str, into: &mut Vec<u8>) -> Loaded
+    ensures gives { StaysTold (F.told source.old) (F.told source.new) (IsFolderLoad name.now result) }
+    ensures told { IfSome (F.told source.old) (λ files.
+        IsLoadEffect (bytes_in (files.files name.now)) into.old.items into.new.items result) }
+    ensures appends { HasBytesAppended into.old.items into.new.items }
+    ensures longest { vec_len into.new ≤ vec_len into.old + 2 ^ 30 }
+{
+    match source.open(name) {
+        Ok(mut file) => answer_for_read(&append_all(&mut file, into, LONGEST)),
+        Err(error) => answer_for_error(&error),
+    }
+}
+
 /// The failures after an answer.
 fn count_after(faults: u64, answer: Loaded) -> u64
     ensures { result ≡ faults_after faults answer }
@@ -125,22 +138,26 @@ fn count_after(faults: u64, answer: Loaded) -> u64
     }
 }
 
-impl<R: Files + Drop> Library for FolderLibrary<R> {
-    ghost table = { λ _. None };
+impl<F: FileSource + Drop> Library for FolderLibrary<F> {
+    ghost table = { λ library. option_map table_in (F.told library.over) };
 
-    ghost faults = { λ library. library };
+    ghost faults = { λ library. library.faults };
+
+    ghost load_gives = { λ old name answer new.
+        StaysTold (F.told old.over) (F.told new.over) (IsFolderLoad name answer) };
 
     fn load(&mut self, name: &str, into: &mut Vec<u8>) -> Loaded
-        ensures faults { self.new ≡ faults_after self.old result }
+        ensures gives { StaysTold (F.told self.old.over) (F.told self.new.over)
+            (IsFolderLoad name.now result) }
+        ensures told { IfSome (F.told self.old.over) (λ files.
+            IsLoadEffect (bytes_in (files.files name.now)) into.old.items into.new.items result) }
+        ensures faults { self.new.faults ≡ faults_after self.old.faults result }
         ensures appends { HasBytesAppended into.old.items into.new.items }
         ensures longest { vec_len into.new ≤ vec_len into.old + 2 ^ 30 }
         ensures unchanged { result ≢ Loaded.Done → into.new.items ≡ into.old.items }
     {
         let before = into.len();
-        let answer = match fs::open(&self.rt, name) {
-            Ok(mut file) => answer_for_read(&append_all(&mut file, into, LONGEST)),
-            Err(error) => answer_for_error(&error),
-        };
+        let answer = append_file(&mut self.source, name, into);
         self.faults = count_after(self.faults, answer);
         if answer != Loaded::Done {
             into.truncate(before);

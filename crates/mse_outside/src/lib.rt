@@ -7,22 +7,31 @@
 //! part of them, and a failure is answered only where the count rose.
 //!
 //! Each trait has three implementations: one in memory that fails at chosen calls, one in memory that never fails, and
-//! the real one, which tells no bytes (`FolderLibrary`, `StdoutSink`).
+//! the real one (`FolderLibrary`, `StdoutSink`). The real ones stand on traits of their own, of single calls: a
+//! `FileSource` opens a file, an `OpenFile` is read, an `Output` takes some bytes and is flushed. Where these tell their
+//! bytes, it is proved which file is opened and that all bytes are handed on. The system's own tell nothing (`SystemFiles`,
+//! `SystemFile`, `SystemOutput`).
 #![tactic(auto)]
 
 mod folder;
 mod library;
 mod memory_library;
 mod memory_sink;
+mod output;
 mod sink;
+mod source;
 mod stdout;
+mod system;
 
 pub use folder::FolderLibrary;
 pub use library::{Library, Loaded};
 pub use memory_library::{MemoryLibrary, SureLibrary};
 pub use memory_sink::{MemorySink, SureSink};
+pub use output::Output;
 pub use sink::{Put, Sink};
+pub use source::{FileSource, OpenFile};
 pub use stdout::StdoutSink;
+pub use system::{SystemFile, SystemFiles, SystemOutput};
 
 #[cfg(test)]
 mod tests;

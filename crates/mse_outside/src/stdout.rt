@@ -1,70 +1,87 @@
 //! Standard output.
 
-ghost use Rattle.std.specs.Prelude.{◌≡◌, ◌≢◌, ℕ, None};
+ghost use Rattle.std.specs.Prelude.{◌≡◌, ◌≢◌, None, option_map};
+ghost use Rattle.mse_outside.specs.Counted.{Counted};
 ghost use Rattle.mse_outside.specs.Folder.{faults_after_put};
-ghost use Rattle.mse_outside.specs.Outside.{sink_view};
+ghost use Rattle.mse_outside.specs.Outside.{IfTold, sink_view};
+ghost use Rattle.mse_outside.specs.Output.{IsOutputPut};
 
-use crate::{Put, Sink};
-use std::io::{self, ErrorKind, Write};
+use crate::{Output, Put, Sink};
+use std::io::ErrorKind;
 use std::marker::Model;
 
-/// Standard output. It tells no bytes and no puts. Contracts see the number of puts that have failed.
+/// Puts on an output, as [`SystemOutput`](crate::SystemOutput). It tells the bytes where the output does, and no puts.
+/// Contracts see the output, and how many puts have failed.
 ///
 /// Each put writes all of its bytes and flushes. A write that takes nothing is a failure.
 #[derive(Drop)]
-pub struct StdoutSink<R: Print + Drop> {
-    rt: R,
+pub struct StdoutSink<O: Output + Drop> {
+    output: O,
     faults: u64,
 }
 
-impl<R: Print + Drop> Model for StdoutSink<R> {
-    ghost Value = { ℕ };
+impl<O: Output + Drop> Model for StdoutSink<O> {
+    ghost Value = { Counted O };
 
-    ghost view = { λ s. s.faults };
+    ghost view = { λ s. record { over = s.output; faults = s.faults } };
 }
 
-impl<R: Print + Drop> StdoutSink<R> {
+impl<O: Output + Drop> StdoutSink<O> {
     /// No put has failed yet.
-    pub fn new(rt: R) -> StdoutSink<R>
-        ensures { result ≡ 0 }
+    pub fn new(output: O) -> StdoutSink<O>
+        ensures { result ≡ record { over = output; faults = 0 } }
     {
-        StdoutSink { rt, faults: 0 }
+        StdoutSink { output, faults: 0 }
+    }
+
+    /// The output that it puts on.
+    pub fn output(&self) -> &O
+        ensures { result.now ≡ self.now.over }
+    {
+        &self.output
     }
 }
 
-/// Whether all of the bytes were taken.
-fn write_whole<R: Print>(rt: &R, bytes: &[u8]) -> bool {
+/// Writes all of the bytes, and flushes. An interrupted write is done again.
+fn write_whole<O: Output>(output: &mut O, bytes: &[u8]) -> Put
+    ensures told { IfTold (O.told output.old) (O.told output.new) (IsOutputPut bytes.now result) }
+    ensures enough_memory { result ≢ Put.OutOfMemory }
+{
     let mut rest = bytes;
-    for _ in 0..u64::MAX {
+    for turn in 0..u64::MAX {
         if rest.is_empty() {
-            return io::writer(rt).flush().is_ok();
+            return match output.flush() {
+                Ok(()) => Put::Done,
+                Err(_) => Put::Failed,
+            };
         }
-        match rt.write_some(rest) {
-            Ok(0) => return false,
+        match output.write_some(rest) {
+            Ok(0) => return Put::Failed,
             Ok(count) => rest = &rest[count..],
             Err(error) => match error.kind() {
                 ErrorKind::Interrupted => {}
-                _ => return false,
+                _ => return Put::Failed,
             },
         }
     }
-    false
+    Put::Failed
 }
 
-impl<R: Print + Drop> Sink for StdoutSink<R> {
-    ghost written = { λ _. sink_view None None };
+impl<O: Output + Drop> Sink for StdoutSink<O> {
+    ghost written = { λ sink. sink_view (option_map (λ s. s.taken) (O.told sink.over)) None };
 
-    ghost faults = { λ sink. sink };
+    ghost faults = { λ sink. sink.faults };
 
     fn put(&mut self, bytes: &[u8]) -> Put
-        ensures faults { self.new ≡ faults_after_put self.old result }
+        ensures output { IfTold (O.told self.old.over) (O.told self.new.over)
+            (IsOutputPut bytes.now result) }
+        ensures faults { self.new.faults ≡ faults_after_put self.old.faults result }
         ensures enough_memory { result ≢ Put.OutOfMemory }
     {
-        if write_whole(&self.rt, bytes) {
-            Put::Done
-        } else {
+        let answer = write_whole(&mut self.output, bytes);
+        if answer == Put::Failed {
             self.faults = self.faults.saturating_add(1);
-            Put::Failed
         }
+        answer
     }
 }

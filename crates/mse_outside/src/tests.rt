@@ -2,11 +2,12 @@
 
 ghost use Rattle.std.specs.Prelude.{◌≡◌, IfOk, vec_len};
 
+mod by_bytes;
+
 use crate::folder::{ReadStop, append_all};
 use crate::*;
+use by_bytes::{ByteFile, ByteOutput, ByteSource};
 use std::alloc::{AllocError, Global};
-use std::cell::RefCell;
-use std::fmt::Display;
 use std::process::Abort;
 use std::test::Fail;
 use std::{fs, io};
@@ -68,9 +69,11 @@ fn loads_surely_from_memory(rt: HostRuntime) -> Result<(), Fail> {
     Ok(())
 }
 
-/// A folder with one file.
-const FROM_A_FOLDER: [LoadRow; 6] = [
+/// A folder with three files: one of three bytes, one that is empty, and one that is longer than what is read at once.
+const FROM_A_FOLDER: [LoadRow; 8] = [
     ("loads_from_a_folder/file", Loaded::Done),
+    ("loads_from_a_folder/empty", Loaded::Done),
+    ("loads_from_a_folder/long", Loaded::Done),
     ("loads_from_a_folder/other", Loaded::NoFile),
     ("", Loaded::NoFile),
     ("loads_from_a_folder", Loaded::Failed),
@@ -78,46 +81,74 @@ const FROM_A_FOLDER: [LoadRow; 6] = [
     ("loads_from_a_folder/file\0", Loaded::Failed),
 ];
 
+/// The bytes of the long file.
+static LONG: [u8; 5000] = [7; 5000];
+
 #[test]
 fn loads_from_a_folder(rt: HostRuntime) -> Result<(), Fail> {
     fs::create_dir(&rt, "loads_from_a_folder")?;
     fs::write(&rt, "loads_from_a_folder/file", b"abc")?;
-    let mut library = FolderLibrary::new(rt);
-    expect_loads(&rt, &mut library, &FROM_A_FOLDER, b"\x09abc")?;
+    fs::write(&rt, "loads_from_a_folder/empty", b"")?;
+    fs::write(&rt, "loads_from_a_folder/long", LONG.as_slice())?;
+    let mut library = FolderLibrary::new(SystemFiles(rt));
+    let mut appended = b"\x09abc".as_slice().to_vec(rt.alloc())?;
+    appended.extend_from_slice(&LONG)?;
+    expect_loads(&rt, &mut library, &FROM_A_FOLDER, &appended)?;
     fs::remove_dir_all(&rt, "loads_from_a_folder")?;
     Ok(())
 }
 
-/// Gives its bytes in pieces of two; the read of that number fails, where there is one, and the
-/// read before it is interrupted.
-#[derive(Drop)]
-struct Pieces<'a> {
-    left: &'a [u8],
-    reads: u64,
-    failing: Option<u64>,
+/// The bytes of a file, whether it breaks off behind them, and how many reads are interrupted.
+type FileRow = (&'static [u8], bool, u64);
+
+fn file_of(row: &FileRow) -> ByteFile<'static> {
+    ByteFile {
+        bytes: row.0,
+        broken: row.1,
+        interrupts: row.2,
+        was_interrupted: false,
+    }
 }
 
-impl io::Read for Pieces<'_> {
-    fn read(&mut self, buf: &mut [u8]) -> io::Result<usize> {
-        self.reads = self.reads.saturating_add(1);
-        if Some(self.reads) == self.failing {
-            return Err(io::Error::from(io::ErrorKind::BrokenPipe));
-        }
-        if Some(self.reads.saturating_add(1)) == self.failing {
-            return Err(io::Error::from(io::ErrorKind::Interrupted));
-        }
-        let count = self.left.len().min(2).min(buf.len());
-        buf[..count].copy_from_slice(&self.left[..count]);
-        self.left = &self.left[count..];
-        Ok(count)
+/// A file, what two loads answer, of its name and of another, and what is appended to a byte of 9.
+type SourceRow = (FileRow, [Loaded; 2], &'static [u8]);
+
+const FROM_A_SOURCE: [SourceRow; 5] = [
+    (
+        (b"abc", false, 0),
+        [Loaded::Done, Loaded::NoFile],
+        b"\x09abc",
+    ),
+    (
+        (b"abc", false, 9),
+        [Loaded::Done, Loaded::NoFile],
+        b"\x09abc",
+    ),
+    ((b"", false, 1), [Loaded::Done, Loaded::NoFile], b"\x09"),
+    ((b"abc", true, 2), [Loaded::Failed, Loaded::NoFile], b"\x09"),
+    ((b"", true, 0), [Loaded::Failed, Loaded::NoFile], b"\x09"),
+];
+
+/// Bytes that come one at a time, with reads between them that are interrupted, up to the end or to a read that fails.
+#[test]
+fn loads_a_byte_at_a_time(rt: HostRuntime) -> Result<(), Fail> {
+    for (file, wanted, appended) in &FROM_A_SOURCE {
+        let mut library = FolderLibrary::new(ByteSource {
+            name: "file",
+            file: file_of(file),
+            opens: 0,
+        });
+        let rows = [("file", wanted[0]), ("other", wanted[1])];
+        expect_loads(&rt, &mut library, &rows, appended)?;
     }
+    Ok(())
 }
 
 /// How many bytes a file may have, what comes of reading it, and what is appended to a byte of 9.
 type ReadRow = (usize, Result<(), ReadStop>, &'static [u8]);
 
 /// Whether this comes of reading a file.
-fn is_read<F: io::Read>(alloc: Global, file: &mut F, row: &ReadRow) -> Result<bool, AllocError> {
+fn is_read<F: OpenFile>(alloc: Global, file: &mut F, row: &ReadRow) -> Result<bool, AllocError> {
     let mut into = vec![in alloc; 9u8]?;
     let found = append_all(file, &mut into, row.0);
     Ok(found == row.1 && into.as_slice() == row.2)
@@ -127,36 +158,21 @@ const TOO_LONG: Result<(), ReadStop> = Err(ReadStop::TooLong);
 
 const BROKEN: Result<(), ReadStop> = Err(ReadStop::Reader(io::ErrorKind::BrokenPipe));
 
-/// Five bytes in pieces: which read fails, if one does.
-const IN_PIECES: [(Option<u64>, ReadRow); 6] = [
-    (None, (5, Ok(()), b"\x09abcde")),
-    (None, (4, TOO_LONG, b"\x09abcd")),
-    (None, (3, TOO_LONG, b"\x09ab")),
-    (Some(3), (9, BROKEN, b"\x09ab")),
-    (Some(9), (9, Ok(()), b"\x09abcde")),
-    (None, (0, TOO_LONG, b"\x09")),
-];
-
-/// Files that are read at once.
-const AT_ONCE: [(&[u8], ReadRow); 3] = [
-    (b"", (0, Ok(()), b"\x09")),
-    (b"abc", (3, Ok(()), b"\x09abc")),
-    (b"abcd", (3, TOO_LONG, b"\x09")),
+/// Files, and what comes of reading each.
+const UP_TO_THE_MOST: [(FileRow, ReadRow); 6] = [
+    ((b"abcde", false, 2), (5, Ok(()), b"\x09abcde")),
+    ((b"abcde", false, 0), (4, TOO_LONG, b"\x09abcd")),
+    ((b"a", false, 0), (0, TOO_LONG, b"\x09")),
+    ((b"", false, 0), (0, Ok(()), b"\x09")),
+    ((b"ab", true, 3), (9, BROKEN, b"\x09ab")),
+    ((b"ab", true, 3), (1, TOO_LONG, b"\x09a")),
 ];
 
 /// A file of as many bytes as it may have is read, and one of a byte more is not.
 #[test]
 fn reads_up_to_the_most(rt: HostRuntime) -> Result<(), Fail> {
-    for (failing, row) in &IN_PIECES {
-        let mut file = Pieces {
-            left: b"abcde",
-            reads: 0,
-            failing: *failing,
-        };
-        assert!(rt; is_read(rt.alloc(), &mut file, row)?, "{row:?}");
-    }
-    for (bytes, row) in &AT_ONCE {
-        let mut file = *bytes;
+    for (file, row) in &UP_TO_THE_MOST {
+        let mut file = file_of(file);
         assert!(rt; is_read(rt.alloc(), &mut file, row)?, "{row:?}");
     }
     Ok(())
@@ -192,39 +208,9 @@ fn puts_into_memory(rt: HostRuntime) -> Result<(), Fail> {
 
 #[test]
 fn puts_on_standard_output(rt: HostRuntime) {
-    let mut sink = StdoutSink::new(rt);
+    let mut sink = StdoutSink::new(SystemOutput(rt));
     let rows = [(b"a line\n".as_slice(), Put::Done), (b"", Put::Done)];
     expect_puts(&rt, &mut sink, &rows);
-}
-
-/// Takes at most two bytes at a time, and none where it has ten.
-#[derive(Drop)]
-struct Slow<'a> {
-    taken: &'a RefCell<Vec<u8>>,
-}
-
-impl Print for Slow<'_> {
-    fn print<D: Display + Drop>(&self, _: D) -> io::Result<()> {
-        Err(io::Error::from(io::ErrorKind::Unsupported))
-    }
-
-    fn println<D: Display + Drop>(&self, _: D) -> io::Result<()> {
-        Err(io::Error::from(io::ErrorKind::Unsupported))
-    }
-
-    fn write_all(&self, _: &[u8]) -> io::Result<()> {
-        Err(io::Error::from(io::ErrorKind::Unsupported))
-    }
-
-    fn write_some(&self, bytes: &[u8]) -> io::Result<usize> {
-        let Ok(mut taken) = self.taken.try_borrow_mut() else {
-            return Ok(0);
-        };
-        let room = 10usize.saturating_sub(taken.len());
-        let count = bytes.len().min(2).min(room);
-        taken.extend_from_slice(&bytes[..count])?;
-        Ok(count)
-    }
 }
 
 /// Puts on an output that takes ten bytes.
@@ -234,11 +220,30 @@ const OF_TEN_BYTES: [PutRow; 3] = [
     (b"k", Put::Failed),
 ];
 
+/// The same, where no flush succeeds.
+const UNFLUSHED: [PutRow; 2] = [(b"abc", Put::Failed), (b"", Put::Failed)];
+
+/// An output that takes ten bytes, with so many writes between them that are interrupted.
+fn ten_bytes(alloc: Global, interrupts: u64, flush_fails: bool) -> ByteOutput {
+    ByteOutput {
+        taken: Vec::new(alloc),
+        room: 10,
+        flushed: false,
+        flush_fails,
+        faults: 0,
+        interrupts,
+        was_interrupted: false,
+    }
+}
+
 #[test]
-fn puts_all_bytes(rt: HostRuntime) -> Result<(), Fail> {
-    let taken = RefCell::new(Vec::new(rt.alloc()));
-    let mut sink = StdoutSink::new(Slow { taken: &taken });
-    expect_puts(&rt, &mut sink, &OF_TEN_BYTES);
-    assert!(rt; taken.try_borrow()?.as_slice() == b"abcdefghij".as_slice());
-    Ok(())
+fn puts_a_byte_at_a_time(rt: HostRuntime) {
+    for interrupts in [0u64, 1, 7, 99] {
+        let mut sink = StdoutSink::new(ten_bytes(rt.alloc(), interrupts, false));
+        expect_puts(&rt, &mut sink, &OF_TEN_BYTES);
+        let output = sink.output();
+        assert!(rt; output.taken.as_slice() == b"abcdefghij".as_slice() && output.flushed);
+    }
+    let mut sink = StdoutSink::new(ten_bytes(rt.alloc(), 1, true));
+    expect_puts(&rt, &mut sink, &UNFLUSHED);
 }

@@ -1,25 +1,17 @@
 -- A run of the program.
-use Rattle.std.specs.Prelude.{ℕ, List, None, ⊤}
+use Rattle.std.specs.Prelude.{ℕ, ◌≡◌, ◌⊎◌, List, Option}
 use Rattle.mse_outside.specs.declared.library.Loaded.{Loaded}
-use Rattle.mse_outside.specs.Outside.{SinkView, sink_view}
+use Rattle.mse_outside.specs.Outside.{Table}
 use Rattle.mse_commands.specs.declared.ending.Status.{Status}
+use Rattle.mse_commands.specs.declared.ending.Status.TheVariants as status
+use Rattle.mse_commands.specs.Endings.{status_number}
 use Rattle.rule_run.specs.ByRules.{IsRunByRules, LibraryAndSink}
 
--- standard output tells no bytes
-abbrev pub untold : SinkView
-untold = sink_view None None
-
--- The folder and standard output, by how many loads and puts have failed.
-abbrev pub folder_and_output : ℕ → ℕ → LibraryAndSink ℕ
-folder_and_output failed_loads failed_puts = record {
-  library = failed_loads;
-  failed_loads = failed_loads;
-  written = untold;
-  failed_puts = failed_puts;
-}
-
--- The words are run with sixteen listeners by rules, and the run ends so. The folder has no table, and tells nothing of a
--- load but whether it failed.
-abbrev pub IsRunOfProgram : List (List ℕ) → LibraryAndSink ℕ → LibraryAndSink ℕ → Status → Type 0
-IsRunOfProgram words before now end =
-    IsRunByRules 16 None (λ (old : ℕ) (name : List ℕ) (answer : Loaded) (new : ℕ). ⊤) words before now end
+-- The words are run with sixteen listeners by rules, and this is the number of the status of that run; or memory ran out
+-- before the run, nothing was done, and it is that of `Memory`. The library had this table, and says this of its loads.
+abbrev pub IsRunOfProgram : {L : Type 0} → Option Table → (L → List ℕ → Loaded → L → Type 0)
+    → List (List ℕ) → LibraryAndSink L → LibraryAndSink L → ℕ → Type 0
+IsRunOfProgram table load_gives words before now number =
+    ((end : Status) × (number ≡ status_number end)
+    × IsRunByRules 16 table load_gives words before now end)
+    ⊎ ((number ≡ status_number status.Memory) × (now ≡ before))
