@@ -10,7 +10,7 @@ use Rattle.mse_calls.specs.declared.calls.Call.{Call}
 use Rattle.mse_calls.specs.declared.calls.Call.TheVariants.{Play}
 use Rattle.mse_calls.specs.declared.events.Event.{Event}
 use Rattle.mse_calls.specs.declared.rules.Rule.{Rule}
-use Rattle.listeners.specs.declared.listener.Note.{Note}
+use Rattle.run_steps.specs.declared.note.Note.{Note}
 use Rattle.listeners.specs.Notes.{heard_of, calls_made}
 use Rattle.listeners.specs.RuleCalls.{has_calls, is_answering, answering_rules, once_calls, again_calls, calls_from, rule_calls, next_call}
 use Rattle.listeners.specs.Coming.{once_left, IsLeft, AreCallsLeft, HasNextCall}

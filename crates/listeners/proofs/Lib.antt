@@ -6,4 +6,7 @@ mod NoteLists
 mod RuleListeners
 mod ListenerTurns
 mod EventDispatch
+mod TurnCalls
+mod TurnSteps
+mod DispatchSteps
 pub mod ListenerWays

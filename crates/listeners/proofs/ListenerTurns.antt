@@ -15,8 +15,8 @@ use Rattle.mse_engine.specs.Standing.{Stands, IsStep}
 use Rattle.mse_engine.specs.Calls.{after_call}
 use Rattle.mse_engine.specs.Sound.{IsSoundEngine}
 use Rattle.mse_engine.proofs.Transitions.{goes_none, goes_then, goes_listener}
-use Rattle.listeners.specs.declared.listener.Note.{Note}
-use Rattle.listeners.specs.declared.listener.Note.TheVariants.{Heard, Made, Told, Rested}
+use Rattle.run_steps.specs.declared.note.Note.{Note}
+use Rattle.run_steps.specs.declared.note.Note.TheVariants.{Heard, Made, Told, Rested}
 use Rattle.listeners.specs.declared.event_dispatch.DispatchFault.TheVariants.{OutOfMemory, CallBudget, TaskBudget}
 use Rattle.listeners.specs.Notes.{told_note, asked_note, entry_notes, is_call_of, call_notes, call_count}
 use Rattle.listeners.specs.Dispatch.{AreCallsInTurn, IsAfterCalls, IsCallTurn, IsServed}

@@ -6,11 +6,12 @@ use Rattle.mse_calls.specs.declared.answers.Answer.{Answer}
 use Rattle.mse_calls.specs.declared.calls.Call.{Call}
 use Rattle.mse_calls.specs.declared.events.Event.{Event}
 use Rattle.mse_calls.specs.declared.rules.Rule.{Rule}
-use Rattle.listeners.specs.declared.listener.Note.{Note}
-use Rattle.listeners.specs.declared.listener.Note.TheVariants.{Heard, Made, Told, Rested}
+use Rattle.run_steps.specs.declared.note.Note.{Note}
+use Rattle.run_steps.specs.declared.note.Note.TheVariants.{Heard, Made, Told, Rested}
 use Rattle.listeners.specs.Dispatch.{notes_at}
 use Rattle.listeners.specs.Notes.{told_note, asked_note}
-use Rattle.listeners.specs.Ways.{Way, IsAnswerOf, IsByWay, AreByWay}
+use Rattle.listeners.specs.Ways.{IsAnswerOf, IsByWay, AreByWay}
+use Rattle.run_steps.specs.Ways.{Way}
 
 -- a note among some and one more is among them, or that one
 split_last : (xs before after : List Note) (x n : Note) → xs ++ x ∷ [] ≡ before ++ n ∷ after

@@ -5,8 +5,8 @@ use Rattle.std.proofs.lemmas.List.{append-nil}
 use Rattle.mse_calls.specs.declared.answers.Answer.{Answer}
 use Rattle.mse_calls.specs.declared.calls.Call.{Call}
 use Rattle.mse_calls.specs.declared.events.Event.{Event}
-use Rattle.listeners.specs.declared.listener.Note.{Note}
-use Rattle.listeners.specs.declared.listener.Note.TheVariants.{Heard, Made, Told, Rested}
+use Rattle.run_steps.specs.declared.note.Note.{Note}
+use Rattle.run_steps.specs.declared.note.Note.TheVariants.{Heard, Made, Told, Rested}
 use Rattle.mse_calls.specs.declared.rules.Rule.{Rule}
 use Rattle.listeners.specs.Notes.{told_note, heard_of, calls_made}
 use Rattle.listeners.specs.RuleCalls.{next_call}

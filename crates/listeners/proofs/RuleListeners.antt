@@ -13,8 +13,8 @@ use Rattle.mse_calls.specs.declared.calls.Call.TheVariants.{Play}
 use Rattle.mse_calls.specs.declared.events.Event.{Event}
 use Rattle.mse_calls.specs.declared.rules.Rule.{Rule}
 use Rattle.listeners.specs.declared.index.RuleIndex.{RuleIndex}
-use Rattle.listeners.specs.declared.listener.Note.{Note}
-use Rattle.listeners.specs.declared.listener.Note.TheVariants.{Heard, Made, Rested}
+use Rattle.run_steps.specs.declared.note.Note.{Note}
+use Rattle.run_steps.specs.declared.note.Note.TheVariants.{Heard, Made, Rested}
 use Rattle.listeners.specs.Notes.{told_note, heard_of, calls_made}
 use Rattle.listeners.specs.RuleCalls.{is_answering, answering_rules, rule_calls, next_call}
 use Rattle.listeners.specs.Events.{event_number}

@@ -8,8 +8,8 @@ use Rattle.mse_calls.specs.declared.calls.Call.TheVariants.{Play}
 use Rattle.mse_calls.specs.declared.events.EventKind.TheVariants.{SourceOpen}
 use Rattle.mse_calls.specs.declared.events.Target.TheVariants.{Source}
 use Rattle.mse_calls.specs.declared.rules.Rule.{Rule}
-use Rattle.listeners.specs.declared.listener.Note.{Note}
-use Rattle.listeners.specs.declared.listener.Note.TheVariants.{Heard, Made, Told, Rested}
+use Rattle.run_steps.specs.declared.note.Note.{Note}
+use Rattle.run_steps.specs.declared.note.Note.TheVariants.{Heard, Made, Told, Rested}
 use Rattle.listeners.specs.declared.history.Remark.{Remark}
 use Rattle.listeners.specs.declared.history.Remark.TheVariants as remark
 use Rattle.listeners.specs.declared.index.RuleIndex.{RuleIndex}

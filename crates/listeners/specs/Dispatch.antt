@@ -7,8 +7,8 @@ use Rattle.mse_calls.specs.declared.events.Event.{Event}
 use Rattle.mse_calls.specs.declared.entry.Entry.{Entry}
 use Rattle.mse_calls.specs.declared.entry.Entry.TheVariants.{Listener}
 use Rattle.mse_engine.specs.Transitions.{IsTransition}
-use Rattle.listeners.specs.declared.listener.Note.{Note}
-use Rattle.listeners.specs.declared.listener.Note.TheVariants.{Heard, Made, Told}
+use Rattle.run_steps.specs.declared.note.Note.{Note}
+use Rattle.run_steps.specs.declared.note.Note.TheVariants.{Heard, Made, Told}
 use Rattle.listeners.specs.declared.event_dispatch.DispatchFault.{DispatchFault}
 use Rattle.listeners.specs.declared.event_dispatch.DispatchFault.TheVariants.{OutOfMemory, CallBudget, TaskBudget}
 use Rattle.listeners.specs.Notes.{asked_note, call_notes, call_count, event_notes}

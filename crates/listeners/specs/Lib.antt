@@ -7,3 +7,4 @@ pub mod Index
 pub mod Coming
 pub mod Views
 pub mod Dispatch
+pub mod TurnSteps

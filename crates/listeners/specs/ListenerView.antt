@@ -1,7 +1,7 @@
 -- What a listener by rules keeps, as contracts see it.
 use Rattle.std.specs.Prelude.{List}
 use Rattle.mse_calls.specs.declared.rules.Rule.{Rule}
-use Rattle.listeners.specs.declared.listener.Note.{Note}
+use Rattle.run_steps.specs.declared.note.Note.{Note}
 
 pub record ListenerView : Type 0 where
   pub rules : List Rule

@@ -4,7 +4,7 @@ use Rattle.std.specs.List.{filter}
 use Rattle.mse_calls.specs.declared.calls.Call.{Call}
 use Rattle.mse_calls.specs.declared.events.Event.{Event}
 use Rattle.mse_calls.specs.declared.rules.Rule.{Rule}
-use Rattle.listeners.specs.declared.listener.Note.{Note}
+use Rattle.run_steps.specs.declared.note.Note.{Note}
 use Rattle.listeners.specs.Events.{is_same}
 use Rattle.listeners.specs.Notes.{heard_of, calls_made}
 

@@ -2,7 +2,7 @@
 use Rattle.std.specs.Prelude.{ℕ, List}
 use Rattle.mse_calls.specs.declared.entry.Entry.{Entry}
 use Rattle.mse_engine.specs.Standing.{KeptEngine}
-use Rattle.listeners.specs.declared.listener.Note.{Note}
+use Rattle.run_steps.specs.declared.note.Note.{Note}
 
 -- what the engine keeps, the journal, and how many calls listeners may still make
 pub record RunView : Type 0 where

@@ -2,12 +2,9 @@
 use Rattle.std.specs.Prelude.{◌≡◌, List, [], ◌∷◌, ◌++◌, Option, IfSome, ⊤}
 use Rattle.mse_calls.specs.declared.calls.Call.{Call}
 use Rattle.mse_calls.specs.declared.rules.Rule.{Rule}
-use Rattle.listeners.specs.declared.listener.Note.{Note}
+use Rattle.run_steps.specs.declared.note.Note.{Note}
+use Rattle.run_steps.specs.Ways.{Way}
 use Rattle.listeners.specs.Notes.{asked_note}
-
--- the call that is answered by these rules after these notes; none where there is no further one
-abbrev pub Way : Type 0
-Way = List Rule → List Note → Option Call
 
 -- what is answered is what the way gives, where a way is told
 abbrev pub IsAnswerOf : Option Way → List Rule → List Note → Option Call → Type 0

@@ -1,11 +1,12 @@
 ghost use Rattle.std.specs.Prelude.{◌≡◌, ◌≤◌, ◌<◌, ◌^◌, ◌++◌, ◌∷◌, [], None, OnOk, OnErr, IfOk, map, vec_len};
 ghost use Rattle.std.specs.Bool.{OnTrue, OnFalse};
 ghost use Rattle.std.specs.Option.{option_copied};
-ghost use Rattle.listeners.specs.declared.listener.Note.{Note};
+ghost use Rattle.run_steps.specs.declared.note.Note.{Note};
 ghost use Rattle.listeners.specs.Notes.{told_note, asked_note};
 ghost use Rattle.listeners.specs.Dispatch.{IsCallTurn, IsDispatch, IsServed};
 ghost use Rattle.listeners.specs.Ways.{IsAnswerOf, IsByWay, AreByWay};
 ghost use Rattle.listeners.specs.Views.{view_of_run, turn_view, dispatch_view};
+ghost use Rattle.listeners.specs.TurnSteps.{AreGrown, IsDispatchInSteps, IsGrown, IsServedInSteps};
 
 use crate::Listener;
 use mse_base::OutOfMemory;
@@ -175,6 +176,13 @@ fn serve<S: FrameStore>(
         (turn_view number (view_of_run engine.new journal.new.entries left.new)
         (notes listener.new))
         result }
+    ensures grew { IsGrown (notes listener.old) (notes listener.new) }
+    ensures steps { IsServedInSteps blobs.now event.now
+        (turn_view number (view_of_run engine.old journal.old.entries left.old)
+        (notes listener.old))
+        (turn_view number (view_of_run engine.new journal.new.entries left.new)
+        (notes listener.new))
+        result }
 {
     if pass_over(listener, event) {
         return Ok(());
@@ -186,7 +194,8 @@ fn serve<S: FrameStore>(
 /// no further one, first with no answer and then each time with that of the call just made; each call
 /// is made on the engine at once, and stands in the journal. Only then does the next listener hear
 /// the event. The listeners may make `left` calls more together. Each stays at its place and keeps
-/// its way, and answers by its way where it tells one.
+/// its way, and answers by its way where it tells one. The dispatch is some steps of each run in which
+/// listeners answer as these did (`steps`).
 ///
 /// `CallBudget` where a listener answers with a call after 1,000 calls for this event, `TaskBudget`
 /// where one answers with a call and no call is left, and `OutOfMemory`. The dispatch ends there:
@@ -210,6 +219,13 @@ pub fn dispatch<S: FrameStore>(
     ensures rules { map (λ b. rules b) listeners.new.items
         ≡ map (λ b. rules b) listeners.old.items }
     ensures dispatch { IsDispatch blobs.now event.now
+        (dispatch_view (view_of_run engine.old journal.old.entries left.old)
+        (map (λ b. notes b) listeners.old.items))
+        (dispatch_view (view_of_run engine.new journal.new.entries left.new)
+        (map (λ b. notes b) listeners.new.items)) result }
+    ensures grew { AreGrown (map (λ b. notes b) listeners.old.items)
+        (map (λ b. notes b) listeners.new.items) }
+    ensures steps { IsDispatchInSteps blobs.now event.now
         (dispatch_view (view_of_run engine.old journal.old.entries left.old)
         (map (λ b. notes b) listeners.old.items))
         (dispatch_view (view_of_run engine.new journal.new.entries left.new)

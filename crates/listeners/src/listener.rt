@@ -2,25 +2,13 @@ ghost use Rattle.std.specs.Prelude.{◌≡◌, ◌++◌, ◌∷◌, [], List, Op
 ghost use Rattle.std.specs.Bool.{OnTrue, OnFalse};
 ghost use Rattle.std.specs.Option.{option_copied};
 ghost use Rattle.mse_calls.specs.declared.rules.Rule.{Rule};
-ghost use Rattle.listeners.specs.declared.listener.Note.{Note};
+ghost use Rattle.run_steps.specs.declared.note.Note.{Note};
 ghost use Rattle.listeners.specs.Notes.{told_note, asked_note};
-ghost use Rattle.listeners.specs.Ways.{Way, IsAnswerOf};
+ghost use Rattle.listeners.specs.Ways.{IsAnswerOf};
+ghost use Rattle.run_steps.specs.Ways.{Way};
 
 use mse_base::OutOfMemory;
 use mse_calls::{Answer, Call, Event, Rule};
-
-/// Something that a listener was given, or did.
-#[derive(Debug, Drop)]
-pub enum Note {
-    /// It heard an event.
-    Heard(Event),
-    /// It made a call.
-    Made(Call),
-    /// It was told what its call answered.
-    Told(Answer),
-    /// It had no further call to make.
-    Rested,
-}
 
 /// A listener. It hears an event, and is then asked for calls, each of which is made at once, until it
 /// has no further one. It means two lists, and may tell by which function of them it answers. What it

@@ -8,7 +8,7 @@ use Rattle.mse_calls.specs.declared.entry.Entry.{Entry}
 use Rattle.mse_calls.specs.declared.rules.Rule.{Rule}
 use Rattle.call_script.specs.declared.script.Script.{Script as CallScript}
 use Rattle.call_script.specs.declared.script.StepLine.{StepLine}
-use Rattle.listeners.specs.Ways.{Way}
+use Rattle.run_steps.specs.Ways.{Way}
 use Rattle.mse_engine.specs.State.{State}
 use Rattle.mse_engine.specs.Run.{after_entries}
 use Rattle.mse_engine.proofs.Transitions.{after_entries-append}

@@ -9,8 +9,8 @@ use Rattle.mse_calls.specs.declared.rules.Rule.{Rule}
 use Rattle.listeners.specs.Dispatch.{AreCallsInTurn}
 use Rattle.listeners.specs.Notes.{calls_made, heard_of}
 use Rattle.listeners.specs.RuleCalls.{again_calls, answering_after, calls_from, next_call, once_calls, rule_calls}
-use Rattle.listeners.specs.declared.listener.Note.{Note}
-use Rattle.listeners.specs.declared.listener.Note.TheVariants.{Heard}
+use Rattle.run_steps.specs.declared.note.Note.{Note}
+use Rattle.run_steps.specs.declared.note.Note.TheVariants.{Heard}
 use Rattle.script_run.specs.Turns.{calls_in}
 use Rattle.mse_commands.specs.Played.{ListenerState, listeners_from}
 use Rattle.mse_commands.specs.Program.{by_rules}

@@ -4,8 +4,9 @@ use Rattle.std.specs.Prelude.{Option, Some}
 use Rattle.mse_calls.specs.declared.entry.Entry.{Entry}
 use Rattle.mse_calls.specs.declared.rules.Rule.{Rule}
 use Rattle.listeners.specs.Dispatch.{notes_at}
-use Rattle.listeners.specs.Ways.{Way, AreByWay, IsByWay}
-use Rattle.listeners.specs.declared.listener.Note.{Note}
+use Rattle.listeners.specs.Ways.{AreByWay, IsByWay}
+use Rattle.run_steps.specs.Ways.{Way}
+use Rattle.run_steps.specs.declared.note.Note.{Note}
 use Rattle.script_run.specs.NoteHistory.{note_history}
 use Rattle.script_run.specs.Rules.{rules_for, rules_of_listener}
 use Rattle.mse_commands.specs.Outcomes.{AreRulesOfNumbers}

@@ -8,8 +8,8 @@ use Rattle.mse_calls.specs.declared.calls.Call.{Call}
 use Rattle.mse_calls.specs.declared.events.Event.{Event}
 use Rattle.mse_calls.specs.declared.entry.Entry.{Entry}
 use Rattle.mse_calls.specs.declared.entry.Entry.TheVariants.{Listener}
-use Rattle.listeners.specs.declared.listener.Note.{Note}
-use Rattle.listeners.specs.declared.listener.Note.TheVariants.{Heard, Made, Rested}
+use Rattle.run_steps.specs.declared.note.Note.{Note}
+use Rattle.run_steps.specs.declared.note.Note.TheVariants.{Heard, Made, Rested}
 use Rattle.listeners.specs.Notes.{call_notes, call_count}
 use Rattle.listeners.specs.Dispatch.{AreCallsInTurn}
 use Rattle.script_run.specs.declared.stop.Stop.{Stop}

@@ -12,7 +12,7 @@ use Rattle.mse_engine.specs.Transitions.{IsTransition}
 use Rattle.mse_engine.specs.Views.{view_in}
 use Rattle.mse_engine.proofs.Transitions.{goes_none}
 use Rattle.event_text.specs.Block.{closing_text}
-use Rattle.listeners.specs.declared.listener.Note.{Note}
+use Rattle.run_steps.specs.declared.note.Note.{Note}
 use Rattle.listeners.specs.declared.event_dispatch.DispatchFault.TheVariants as fault
 use Rattle.remux.specs.Pieces.{pieces_of_file}
 use Rattle.script_run.specs.declared.stop.Halt.{Halt}

@@ -5,7 +5,7 @@ use Rattle.std.specs.Prelude.{Option, Some, None, option_map, drop, slice_get, â
 use Rattle.mse_calls.specs.declared.calls.Call.{Call}
 use Rattle.mse_calls.specs.declared.events.Event.{Event}
 use Rattle.mse_calls.specs.declared.entry.Entry.TheVariants.{Work, Element}
-use Rattle.listeners.specs.declared.listener.Note.TheVariants.{Heard, Made, Told}
+use Rattle.run_steps.specs.declared.note.Note.TheVariants.{Heard, Made, Told}
 use Rattle.script_run.specs.declared.stop.Stop.{Stop}
 use Rattle.script_run.specs.DrainSteps.{IsAtRest}
 use Rattle.script_run.specs.Turns.{most_calls}

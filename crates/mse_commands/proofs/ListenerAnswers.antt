@@ -4,8 +4,8 @@ use Rattle.std.specs.Prelude.{Option, Some, None, ⊤}
 use Rattle.std.proofs.lemmas.List.{append-nil}
 use Rattle.mse_calls.specs.declared.calls.Call.{Call}
 use Rattle.listeners.specs.Notes.{asked_note}
-use Rattle.listeners.specs.declared.listener.Note.{Note}
-use Rattle.listeners.specs.declared.listener.Note.TheVariants.{Heard, Made, Told, Rested}
+use Rattle.run_steps.specs.declared.note.Note.{Note}
+use Rattle.run_steps.specs.declared.note.Note.TheVariants.{Heard, Made, Told, Rested}
 
 -- the call that is answered after some notes; none where there is no further one
 abbrev pub Answering : Type 0

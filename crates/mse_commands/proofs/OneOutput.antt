@@ -3,7 +3,7 @@ use Rattle.std.proofs.Common.{◌≡◌, ℕ, ◌<◌, ◌^◌, false, List, len
 use Rattle.std.specs.Prelude.{is_some, Result}
 use Rattle.mse_outside.specs.Outside.{Table}
 use Rattle.event_text.specs.Block.{closing_text}
-use Rattle.listeners.specs.Ways.{Way}
+use Rattle.run_steps.specs.Ways.{Way}
 use Rattle.mse_engine.specs.State.{Core, State, core_of}
 use Rattle.mse_engine.specs.Views.{view_in}
 use Rattle.script_run.specs.Text.{lines_in}

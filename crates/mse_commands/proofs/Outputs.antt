@@ -7,7 +7,7 @@ use Rattle.mse_outside.specs.Outside.{HasRisen, SinkView, Table}
 use Rattle.mse_calls.specs.declared.entry.Entry.{Entry}
 use Rattle.mse_calls.specs.declared.entry.Entry.TheVariants.{Fired}
 use Rattle.call_script.specs.declared.script.Script.{Script as CallScript}
-use Rattle.listeners.specs.Ways.{Way}
+use Rattle.run_steps.specs.Ways.{Way}
 use Rattle.listeners.specs.declared.event_dispatch.DispatchFault.{DispatchFault}
 use Rattle.listeners.specs.declared.event_dispatch.DispatchFault.TheVariants as fault
 use Rattle.mse_engine.specs.State.{State}

@@ -11,10 +11,10 @@ use Rattle.mse_calls.specs.declared.rules.Rule.{Rule}
 use Rattle.call_script.specs.declared.script.Script.{Script as CallScript}
 use Rattle.call_script.specs.declared.script.StepLine.{StepLine}
 use Rattle.call_script.specs.declared.script.StepLine.TheVariants as step
-use Rattle.listeners.specs.declared.listener.Note.{Note}
-use Rattle.listeners.specs.declared.listener.Note.TheVariants.{Heard, Made, Told, Rested}
+use Rattle.run_steps.specs.declared.note.Note.{Note}
+use Rattle.run_steps.specs.declared.note.Note.TheVariants.{Heard, Made, Told, Rested}
 use Rattle.listeners.specs.Notes.{asked_note}
-use Rattle.listeners.specs.Ways.{Way}
+use Rattle.run_steps.specs.Ways.{Way}
 use Rattle.script_run.specs.declared.stop.Stop.{Stop}
 use Rattle.script_run.specs.Rules.{rules_for, rules_of_listener}
 use Rattle.script_run.specs.Turns.{most_calls}

@@ -4,7 +4,7 @@ use Rattle.std.proofs.lemmas.List.{length-map}
 use Rattle.std.specs.Prelude.{true, false, Result, Ok, Err, OnErr}
 use Rattle.mse_calls.specs.declared.rules.Rule.{Rule}
 use Rattle.event_text.specs.Block.{closing_text}
-use Rattle.listeners.specs.declared.listener.Note.{Note}
+use Rattle.run_steps.specs.declared.note.Note.{Note}
 use Rattle.mse_engine.specs.State.{State}
 use Rattle.mse_engine.specs.Standing.{Stands}
 use Rattle.mse_engine.specs.Views.{view_in}

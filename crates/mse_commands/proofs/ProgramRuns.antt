@@ -6,8 +6,9 @@ use Rattle.mse_outside.specs.Outside.{HasRisen, Table}
 use Rattle.mse_calls.specs.declared.rules.Rule.{Rule}
 use Rattle.call_script.specs.declared.script.Script.{Script as CallScript}
 use Rattle.listeners.specs.Dispatch.{notes_at}
-use Rattle.listeners.specs.Ways.{Way, AreByWay}
-use Rattle.listeners.specs.declared.listener.Note.{Note}
+use Rattle.listeners.specs.Ways.{AreByWay}
+use Rattle.run_steps.specs.Ways.{Way}
+use Rattle.run_steps.specs.declared.note.Note.{Note}
 use Rattle.mse_commands.specs.declared.ending.Status.{Status}
 use Rattle.mse_commands.specs.declared.ending.Status.TheVariants as status
 use Rattle.mse_commands.specs.Requests.{HasRequestOfWords, Request, ByScript, request_in}

@@ -4,7 +4,7 @@ use Rattle.std.specs.Prelude.{Bool, is_some, Option, Some, None, Ok, Err}
 use Rattle.mse_outside.specs.Outside.{SinkView, Table}
 use Rattle.mse_calls.specs.declared.rules.Rule.{Rule}
 use Rattle.mse_calls.specs.declared.entry.Entry.{Entry}
-use Rattle.listeners.specs.declared.listener.Note.{Note}
+use Rattle.run_steps.specs.declared.note.Note.{Note}
 use Rattle.mse_engine.specs.State.{State}
 use Rattle.mse_engine.specs.Standing.{KeptEngine, Stands}
 use Rattle.script_run.specs.declared.stop.Halt.{Halt}

@@ -6,8 +6,9 @@ use Rattle.mse_calls.specs.declared.rules.Rule.{Rule}
 use Rattle.call_script.specs.declared.script.Script.{Script as CallScript}
 use Rattle.call_script.specs.declared.script.StepLine.{StepLine}
 use Rattle.listeners.specs.Dispatch.{notes_at}
-use Rattle.listeners.specs.Ways.{Way, IsByWay}
-use Rattle.listeners.specs.declared.listener.Note.{Note}
+use Rattle.listeners.specs.Ways.{IsByWay}
+use Rattle.run_steps.specs.Ways.{Way}
+use Rattle.run_steps.specs.declared.note.Note.{Note}
 use Rattle.mse_engine.specs.Run.{IsReplay}
 use Rattle.script_run.specs.declared.stop.Stop.{Stop}
 use Rattle.script_run.specs.NoteHistory.{IsAllHeard}

@@ -6,7 +6,7 @@ use Rattle.mse_calls.specs.declared.rules.Rule.{Rule}
 use Rattle.mse_engine.specs.Run.{IsReplay}
 use Rattle.mse_engine.specs.Sound.{AreSoundBehind}
 use Rattle.mse_engine.specs.Standing.{KeptEngine, Stands}
-use Rattle.listeners.specs.declared.listener.Note.{Note}
+use Rattle.run_steps.specs.declared.note.Note.{Note}
 use Rattle.remux.specs.Pieces.{pieces_of_file}
 use Rattle.listeners.specs.declared.event_dispatch.DispatchFault.TheVariants as fault
 use Rattle.script_run.specs.declared.stop.Stop.{Stop}

@@ -10,9 +10,9 @@ use Rattle.mse_calls.specs.declared.entry.Entry.TheVariants.{Step, Script, Liste
 use Rattle.mse_calls.specs.declared.rules.Rule.{Rule}
 use Rattle.call_script.specs.declared.script.StepLine.{StepLine}
 use Rattle.call_script.specs.declared.script.StepLine.TheVariants as step
-use Rattle.listeners.specs.Ways.{Way}
-use Rattle.listeners.specs.declared.listener.Note.{Note}
-use Rattle.listeners.specs.declared.listener.Note.TheVariants.{Heard, Made, Told, Rested}
+use Rattle.run_steps.specs.Ways.{Way}
+use Rattle.run_steps.specs.declared.note.Note.{Note}
+use Rattle.run_steps.specs.declared.note.Note.TheVariants.{Heard, Made, Told, Rested}
 use Rattle.script_run.specs.declared.stop.Stop.{Stop}
 use Rattle.script_run.specs.declared.stop.Stop.TheVariants.{CallBudget, TaskBudget}
 use Rattle.script_run.specs.Rules.{rules_for}

@@ -6,7 +6,7 @@ use Rattle.mse_calls.specs.declared.calls.Call.TheVariants.{Attach, AddSourceBuf
 use Rattle.call_script.specs.declared.script.Script.{Script as CallScript}
 use Rattle.call_script.specs.declared.script.StepLine.TheVariants.{Call}
 use Rattle.listeners.specs.RuleCalls.{next_call}
-use Rattle.listeners.specs.Ways.{Way}
+use Rattle.run_steps.specs.Ways.{Way}
 use Rattle.mse_engine.specs.State.{State}
 use Rattle.remux.specs.Pieces.{pieces_of_file}
 use Rattle.script_run.specs.declared.stop.Stop.{Stop}

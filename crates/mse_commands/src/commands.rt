@@ -2,7 +2,7 @@
 
 ghost use Rattle.std.specs.Prelude.{◌≡◌, ◌<◌, ◌++◌, ◌^◌, ℕ, List, [], pos, false, None, Some, Ok, IfSome, IfOk, IfErr, OnOk, OnErr, IsErrOf, length, map, string_bytes, vec_len};
 ghost use Rattle.event_text.specs.Block.{closing_text};
-ghost use Rattle.listeners.specs.declared.listener.Note.{Note};
+ghost use Rattle.run_steps.specs.declared.note.Note.{Note};
 ghost use Rattle.listeners.specs.Dispatch.{notes_at};
 ghost use Rattle.mse_calls.specs.declared.rules.Rule.{Rule};
 ghost use Rattle.mse_engine.specs.State.{State};

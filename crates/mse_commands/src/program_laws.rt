@@ -5,7 +5,8 @@ ghost use Rattle.std.specs.Prelude.{◌≡◌, ◌<◌, ◌^◌, ℕ, List, leng
 ghost use Rattle.mse_outside.specs.Outside.{Table};
 ghost use Rattle.call_script.specs.declared.script.Script.{Script};
 ghost use Rattle.call_script.specs.declared.script.StepLine.{StepLine};
-ghost use Rattle.listeners.specs.Ways.{AreByWay, Way};
+ghost use Rattle.listeners.specs.Ways.{AreByWay};
+ghost use Rattle.run_steps.specs.Ways.{Way};
 ghost use Rattle.script_run.specs.DrainSteps.{IsAtRest};
 ghost use Rattle.cut_law.specs.Cuts.{AreCuts, Cut};
 ghost use Rattle.cut_law.specs.Outcomes.{AreAlike};

@@ -1,7 +1,7 @@
 //! A classic file as fragments.
 
 ghost use Rattle.std.specs.Prelude.{◌≡◌, ℕ, List, [], ◌∷◌, None, Some, IfOk, OnOk, OnErr, IsErrOf, is_err};
-ghost use Rattle.listeners.specs.declared.listener.Note.{Note};
+ghost use Rattle.run_steps.specs.declared.note.Note.{Note};
 ghost use Rattle.mse_calls.specs.declared.rules.Rule.{Rule};
 ghost use Rattle.mse_outside.specs.Outside.{IsFailedLoad};
 ghost use Rattle.remux.specs.Pieces.{pieces_of_file};

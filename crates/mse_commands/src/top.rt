@@ -3,7 +3,8 @@
 ghost use Rattle.std.specs.Prelude.{◌≡◌, ◌≢◌, ◌<◌, ◌^◌, ℕ, List, [], None, Some, IfSome, Ok, map, string_bytes, vec_len};
 ghost use Rattle.call_script.specs.declared.script.Script.{Script};
 ghost use Rattle.listeners.specs.Dispatch.{notes_at};
-ghost use Rattle.listeners.specs.Ways.{AreByWay, Way};
+ghost use Rattle.listeners.specs.Ways.{AreByWay};
+ghost use Rattle.run_steps.specs.Ways.{Way};
 ghost use Rattle.mse_outside.specs.Outside.{HasRisen};
 ghost use Rattle.mse_commands.specs.Requests.{ByScript, HasRequestOfWords, request_in};
 ghost use Rattle.mse_commands.specs.Complete.{IsCutAnywhere, IsComplete};

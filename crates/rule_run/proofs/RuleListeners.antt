@@ -4,10 +4,11 @@ use Rattle.std.specs.Prelude.{Option, None, Some, IfSome, replicate}
 use Rattle.std.proofs.lemmas.List.{replicate_more, map-append}
 use Rattle.mse_calls.specs.declared.entry.Entry.{Entry}
 use Rattle.mse_calls.specs.declared.rules.Rule.{Rule}
-use Rattle.listeners.specs.declared.listener.Note.{Note}
+use Rattle.run_steps.specs.declared.note.Note.{Note}
 use Rattle.listeners.specs.Dispatch.{notes_at}
 use Rattle.listeners.specs.RuleCalls.{next_call}
-use Rattle.listeners.specs.Ways.{AreByWay, Way}
+use Rattle.listeners.specs.Ways.{AreByWay}
+use Rattle.run_steps.specs.Ways.{Way}
 use Rattle.mse_engine.specs.Standing.{KeptEngine}
 use Rattle.mse_commands.specs.declared.ending.Status.{Status}
 use Rattle.mse_commands.specs.Outcomes.{IsEndOfRun, outcome, outside_of}

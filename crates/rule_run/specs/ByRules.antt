@@ -4,7 +4,7 @@ use Rattle.mse_outside.specs.declared.library.Loaded.{Loaded}
 use Rattle.mse_outside.specs.Outside.{HasRisen, SinkView, Table}
 use Rattle.mse_calls.specs.declared.entry.Entry.{Entry}
 use Rattle.mse_calls.specs.declared.rules.Rule.{Rule}
-use Rattle.listeners.specs.declared.listener.Note.{Note}
+use Rattle.run_steps.specs.declared.note.Note.{Note}
 use Rattle.mse_engine.specs.Standing.{KeptEngine}
 use Rattle.mse_commands.specs.declared.ending.Status.{Status}
 use Rattle.mse_commands.specs.declared.ending.Status.TheVariants as status

@@ -3,8 +3,8 @@ use Rattle.std.proofs.Common.{◌≡◌, ℕ, List, [], ◌∷◌, ◌++◌, ref
 use Rattle.std.proofs.lemmas.List.{append-nil}
 use Rattle.mse_calls.specs.declared.entry.Entry.{Entry}
 use Rattle.mse_calls.specs.declared.entry.Entry.TheVariants.{Step, Script, Listener, Fired, Work, Element}
-use Rattle.listeners.specs.declared.listener.Note.{Note}
-use Rattle.listeners.specs.declared.listener.Note.TheVariants.{Heard, Rested}
+use Rattle.run_steps.specs.declared.note.Note.{Note}
+use Rattle.run_steps.specs.declared.note.Note.TheVariants.{Heard, Rested}
 use Rattle.listeners.specs.declared.event_dispatch.DispatchFault.{DispatchFault}
 use Rattle.listeners.specs.Notes.{call_notes, entry_notes, event_notes}
 use Rattle.listeners.specs.Dispatch.{notes_at}

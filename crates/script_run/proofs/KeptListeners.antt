@@ -2,8 +2,9 @@
 use Rattle.std.proofs.Common.{◌≡◌, ◌∙◌, List, map, refl}
 use Rattle.std.specs.Prelude.{Option}
 use Rattle.mse_calls.specs.declared.rules.Rule.{Rule}
-use Rattle.listeners.specs.declared.listener.Note.{Note}
-use Rattle.listeners.specs.Ways.{Way, AreByWay}
+use Rattle.run_steps.specs.declared.note.Note.{Note}
+use Rattle.listeners.specs.Ways.{AreByWay}
+use Rattle.run_steps.specs.Ways.{Way}
 use Rattle.script_run.specs.Keeps.{AreListenersInPlace, AreListenersKept}
 
 pub kept_same : {A K : Type 0} (kind : A → K) (way : A → Option Way) (rules : A → List Rule) (notes : A → List Note) (all : List A) → AreListenersKept kind way rules notes all all

@@ -5,7 +5,7 @@ use Rattle.std.proofs.lemmas.List.{append-nil}
 use Rattle.std.proofs.lemmas.List.Concat.{flat_map-append}
 use Rattle.mse_calls.specs.declared.entry.Entry.{Entry}
 use Rattle.mse_outside.specs.Outside.{SinkView}
-use Rattle.listeners.specs.declared.listener.Note.{Note}
+use Rattle.run_steps.specs.declared.note.Note.{Note}
 use Rattle.mse_engine.specs.State.{State}
 use Rattle.mse_engine.specs.Standing.{Stands}
 use Rattle.mse_engine.specs.Run.{after_entries}

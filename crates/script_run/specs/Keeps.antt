@@ -2,8 +2,9 @@
 use Rattle.std.specs.Prelude.{◌≡◌, ◌≤◌, ℕ, List, map, Option, Result, IsErrOf}
 use Rattle.mse_outside.specs.Outside.{HasRisen}
 use Rattle.mse_calls.specs.declared.rules.Rule.{Rule}
-use Rattle.listeners.specs.declared.listener.Note.{Note}
-use Rattle.listeners.specs.Ways.{Way, AreByWay}
+use Rattle.run_steps.specs.declared.note.Note.{Note}
+use Rattle.listeners.specs.Ways.{AreByWay}
+use Rattle.run_steps.specs.Ways.{Way}
 
 -- Each listener stays at its place with its kind, its way and its rules; and where each did what its way gives, each
 -- still does. `kind`, `way`, `rules` and `notes` tell these of a listener.

@@ -2,7 +2,7 @@
 use Rattle.std.specs.Prelude.{List}
 use Rattle.mse_outside.specs.Outside.{SinkView}
 use Rattle.listeners.specs.Views.{RunView}
-use Rattle.listeners.specs.declared.listener.Note.{Note}
+use Rattle.run_steps.specs.declared.note.Note.{Note}
 
 -- a run, with what its sink tells of what was written
 pub record PrintedRun : Type 0 where

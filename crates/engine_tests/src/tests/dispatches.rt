@@ -10,11 +10,12 @@ ghost use Rattle.listeners.specs.Notes.{told_note};
 
 use super::rule_listeners::{OPEN, boxed_listener};
 use event_text::{closing, event_line, listener_line, script_line};
-use listeners::{DispatchFault, Listener, Note, RuleListener, dispatch};
+use listeners::{DispatchFault, Listener, RuleListener, dispatch};
 use mse_base::{Bytes, OutOfMemory, OwnedList, Text, Ticks};
 use mse_calls::{Answer, Blobs, Call, Entry, Event, Piece, Rule};
 use mse_engine::Engine;
 use run_journal::{EntryRef, Journal};
+use run_steps::Note;
 use std::alloc::Global;
 use std::test::Fail;
 use track_store::ListStore;

@@ -1,4 +1,4 @@
-use Rattle.std.proofs.Common.{◌∙◌, ◌<◌, length, sym, rules}
+use Rattle.std.proofs.Common.{◌∙◌, ◌<◌, length, sym}
 use Rattle.std.proofs.lemmas.Bool.{ltb-true}
 use Rattle.listeners.proofs.RuleIndex.{times_read}
 use Rattle.listeners.proofs.index.has_times_left.Goals as goal

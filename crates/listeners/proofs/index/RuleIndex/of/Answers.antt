@@ -1,4 +1,4 @@
-use Rattle.std.proofs.Common.{arith, rules}
+use Rattle.std.proofs.Common.{arith}
 use Rattle.listeners.proofs.RuleIndex.{places_next}
 use Rattle.listeners.proofs.index.RuleIndex.of.Goals as goal
 

@@ -1,6 +1,6 @@
 use Rattle.std.proofs.Common.{◌++◌, ◌∷◌, [], drop, sym, append_assoc, arith}
 use Rattle.std.specs.Prelude.{None}
-use Rattle.listeners.specs.declared.listener.Note.TheVariants.{Heard, Rested}
+use Rattle.run_steps.specs.declared.note.Note.TheVariants.{Heard, Rested}
 use Rattle.listeners.specs.Coming.{notes_of}
 use Rattle.listeners.proofs.RuleListeners.{holds_idle, holds_rested, next_is_none}
 use Rattle.listeners.proofs.rule_listener.RuleListenerListener.hear_if_idle.Goals as goal

@@ -1,0 +1,4 @@
+pub mod Ways
+pub mod Happenings
+pub mod Steps
+pub mod Laws
