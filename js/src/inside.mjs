@@ -4,6 +4,7 @@ export const attachTo = Symbol('attachTo');
 export const detach = Symbol('detach');
 export const leaveList = Symbol('leaveList');
 export const numberOf = Symbol('numberOf');
+export const refresh = Symbol('refresh');
 export const resourceOf = Symbol('resourceOf');
 export const targetOf = Symbol('targetOf');
 

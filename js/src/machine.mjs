@@ -93,6 +93,11 @@ export class Machine {
   // What a page reads of the source buffer of a number; null where it is not in the list.
   buffer(number) {
     this.#host.look();
+    return this.lastOf(number);
+  }
+
+  // The same, without time that has passed since the last call.
+  lastOf(number) {
     if (!this.#buffers.has(number)) this.#buffers.set(number, this.#session.buffer(number));
     return this.#buffers.get(number);
   }

@@ -3,7 +3,7 @@
 import { Session } from './engine.mjs';
 import { leaveOut } from './errors.mjs';
 import { defineHandlers } from './handlers.mjs';
-import { attachTo, detach, leaveList, needArguments, numberOf, targetOf, token } from './inside.mjs';
+import { attachTo, detach, leaveList, needArguments, numberOf, refresh, targetOf, token } from './inside.mjs';
 import { Machine, NOBODY, typeWord } from './machine.mjs';
 import { SourceBuffer } from './source_buffer.mjs';
 import { SourceBufferList } from './source_buffer_list.mjs';
@@ -69,6 +69,7 @@ export class MediaSource extends EventTarget {
     needArguments(arguments, 1);
     const buffer = new SourceBuffer(token, this.#machine, this.#add(String(type)));
     this.#buffers.push(buffer);
+    this.#refresh();
     return buffer;
   }
 
@@ -79,6 +80,7 @@ export class MediaSource extends EventTarget {
       throw new DOMException('removeSourceBuffer: the source buffer is not in the list', 'NotFoundError');
     }
     buffer[leaveList](() => this.#machine.call(`removebuffer ${buffer[numberOf]}`, () => 'removeSourceBuffer'));
+    this.#refresh();
   }
 
   endOfStream(error) {
@@ -117,6 +119,7 @@ export class MediaSource extends EventTarget {
     // steps 1, 2, 3 and 5
     this.#machine = null;
     this.#buffers = [];
+    this.#refresh();
     // step 4
     queue(this.#activeSourceBuffers, 'removesourcebuffer');
     ends.forEach(([number, type]) => queue(buffers[number], type));
@@ -128,6 +131,8 @@ export class MediaSource extends EventTarget {
 
   // the target of an event: "source", "sourcebuffers", "activesourcebuffers" or "buffer K"
   [targetOf](name) {
+    // it changes behind such an event only
+    if (name === 'activesourcebuffers') this.#refresh();
     const [sourcebuffers, activesourcebuffers] = [this.#sourceBuffers, this.#activeSourceBuffers];
     const targets = { source: this, sourcebuffers, activesourcebuffers };
     return targets[name] ?? this.#buffers[Number(name.split(' ')[1])];
@@ -149,11 +154,18 @@ export class MediaSource extends EventTarget {
   }
 
   // The source buffers in the list of which the engine's attributes are so.
-  #buffersWith(isSo) {
+  #buffersWith(isSo, attributesOf = (number) => this.#machine.buffer(number)) {
     return this.#buffers.filter((_, number) => {
-      const attributes = this.#machine.buffer(number);
+      const attributes = attributesOf(number);
       return attributes !== null && isSo(attributes);
     });
+  }
+
+  // Gives the lists the source buffers that are in them now.
+  #refresh() {
+    const attributesOf = (number) => this.#machine.lastOf(number);
+    this.#sourceBuffers[refresh](this.#buffersWith(() => true, attributesOf));
+    this.#activeSourceBuffers[refresh](this.#buffersWith(({ active }) => active, attributesOf));
   }
 }
 

@@ -1,16 +1,12 @@
 // SourceBufferList (Media Source Extensions, 5).
 
 import { defineHandlers } from './handlers.mjs';
-import { onlyInside } from './inside.mjs';
+import { onlyInside, refresh } from './inside.mjs';
 import { tag } from './tags.mjs';
-
-const itemAt = Symbol('itemAt');
-
-// a media source has at most so many source buffers in its list
-const MOST_BUFFERS = 16;
 
 export class SourceBufferList extends EventTarget {
   #items;
+  #shown = 0;
 
   // `items` gives the source buffers that are in the list now
   constructor(given, items) {
@@ -27,18 +23,16 @@ export class SourceBufferList extends EventTarget {
     return this.#items()[Symbol.iterator]();
   }
 
-  [itemAt](index) {
-    return this.#items()[index];
+  // Makes these items the indexed properties (Web IDL, 3.9, "legacy platform objects"): there are as many as items, and
+  // none can be set.
+  [refresh](items) {
+    for (let index = items.length; index < this.#shown; index += 1) delete this[index];
+    items.forEach((value, index) => {
+      Object.defineProperty(this, index, { value, writable: false, enumerable: true, configurable: true });
+    });
+    this.#shown = items.length;
   }
 }
 
-for (let index = 0; index < MOST_BUFFERS; index += 1) {
-  Object.defineProperty(SourceBufferList.prototype, index, {
-    get() {
-      return this[itemAt](index);
-    },
-    configurable: true,
-  });
-}
 defineHandlers(SourceBufferList, ['addsourcebuffer', 'removesourcebuffer']);
 tag(SourceBufferList);

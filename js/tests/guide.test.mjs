@@ -1,4 +1,4 @@
-// The tests that docs/GUIDE.md shows pass, and the script that one of them keeps prints its end.
+// The tests that docs/TESTING.md shows pass, and the script that one of them keeps prints its end.
 
 import assert from 'node:assert/strict';
 import { spawnSync } from 'node:child_process';
@@ -11,16 +11,15 @@ import { run } from '../src/engine.mjs';
 
 const REPOSITORY = new URL('../../', import.meta.url);
 
-// all that the section shows, as one file
+// all that the page shows, as one file
 function shownTests() {
-  const guide = readFileSync(new URL('docs/GUIDE.md', REPOSITORY), 'utf8');
-  const section = guide.split("\n## How do I run my player's tests?")[1].split('\n## ')[0];
-  return Array.from(section.matchAll(/^```js\n(.*?)^```$/gms), ([, block]) => block).join('\n');
+  const page = readFileSync(new URL('docs/TESTING.md', REPOSITORY), 'utf8');
+  return Array.from(page.matchAll(/^```js\n(.*?)^```$/gms), ([, block]) => block).join('\n');
 }
 
 const skip = mock.timers === undefined && 'mock.timers came with node 20.4';
 
-test('the tests that the guide shows pass, and a script of them prints the end', { skip }, () => {
+test('the tests that the page shows pass, and a script of them prints the end', { skip }, () => {
   const folder = mkdtempSync(join(tmpdir(), 'guide-'));
   try {
     const kept = join(folder, 'kept');
@@ -32,7 +31,7 @@ test('the tests that the guide shows pass, and a script of them prints the end',
     const options = { cwd: fileURLToPath(REPOSITORY), encoding: 'utf8', env };
     const done = spawnSync(process.execPath, ['--test', path], options);
     assert.equal(done.status, 0, done.stdout + done.stderr);
-    assert.match(done.stdout, /^\S+ pass 4$/m);
+    assert.match(done.stdout, /^\S+ pass 5$/m);
     const files = Object.fromEntries(readdirSync(kept).map((name) => [name, readFileSync(join(kept, name))]));
     assert.match(run(['play', 'script.toml'], files).text, /^event element ended$/m);
   } finally {

@@ -55,7 +55,7 @@ function shown(options, lines) {
 /** Does what the words ask for, and puts what is printed and the help; the status, of `inspect` a promise of it. */
 export function main(all, write = put) {
   const { options, words } = splitWords(all);
-  if (words[0] === 'inspect') return inspectFiles(words.slice(1), write).catch(() => WRITE);
+  if (words[0] === 'inspect') return inspectFiles(words.slice(1), write, options).catch(() => WRITE);
   const ran = runInFolder(run, words);
   const { result } = ran;
   const lines = isFile(words, result) ? undefined : result.text.split('\n').slice(0, -1);

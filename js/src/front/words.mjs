@@ -37,6 +37,7 @@ export function commandsHelp() {
   return ['mseplay [OPTIONS] COMMAND, where COMMAND is one of', ...commands.map(row),
     'or, which the native program does not have,',
     row(['inspect FILE..', 'a row for each segment of the files, in the order of their names, and what is wrong in them']),
+    row(['inspect --jobs N FILE..', 'each file by itself, and those of folders; inspect alone tells its options']),
     'and OPTIONS, which the native program does not have, are', ...Object.entries(OPTIONS).map(row),
     'A path is from the folder that it is called in.',
     'A time is ticks, of which a second has 141,120,000,000, or n/scale.'];

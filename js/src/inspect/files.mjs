@@ -25,11 +25,12 @@ async function asFragments(engine, source, classic) {
   return status ? source : bytesSource(`${source.name} as fragments`, bytes.slice());
 }
 
-// Appends the files of some sources; `heard` gets each row, and what part of all bytes was read. Gives the inspection,
-// which goes on, and what there is to tell.
-export async function inspect(engine, sources, { help = () => null, heard = () => {}, gap = 0 } = {}) {
+// Appends the files of some sources; `heard` gets each row, and what part of all bytes was read. Classic files are
+// appended as they are where `isRemuxed` is false. Gives the inspection, which goes on, and what there is to tell.
+export async function inspect(engine, sources, options = {}) {
+  const { help = () => null, heard = () => {}, gap = 0, isRemuxed = true } = options;
   const classic = [], whole = [];
-  for (const source of sources) whole.push(await asFragments(engine, source, classic));
+  for (const source of sources) whole.push(isRemuxed ? await asFragments(engine, source, classic) : source);
   const plan = await planOf(whole), inspection = new Inspection(engine, { gap });
   const all = plan.buffers.flatMap(({ files }) => files).reduce((sum, { source }) => sum + source.size, 0) || 1;
   let done = 0;
