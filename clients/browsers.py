@@ -12,139 +12,29 @@ pipe, Firefox by Marionette, which is its own. What is not installed is said and
 Status 0: all rows are as told; 1: one has changed; 2: nothing was tried.
 """
 import base64
-import contextlib
+import concurrent.futures
 import json
-import os
-import shutil
-import signal
-import socket
-import subprocess
 import sys
-import tempfile
-import time
 import tomllib
 from pathlib import Path
 
 sys.dont_write_bytecode = True
 CLIENTS = Path(__file__).resolve().parent
-sys.path[:0] = [str(CLIENTS), str(CLIENTS / "tests")]
+sys.path.insert(0, str(CLIENTS))
 
 import compare  # noqa: E402
-import kit  # noqa: E402
+import scripts  # noqa: E402
+from drivers import BROWSERS, NotDriven  # noqa: E402
 
 ROWS = CLIENTS / "rows"
 PLAY = CLIENTS / "play.html"
 
 
-class NotDriven(Exception):
-    """The browser is not here, or does not answer; the text says so."""
-
-
-# The browsers: each opens play.html and plays scripts in it.
-
-
-class Chromium:
-    name = "Chromium"
-
-    def __init__(self):
-        try:
-            self.browser = kit.Browser()
-        except kit.Skip as skip:
-            raise NotDriven(str(skip)) from skip
-        self.version = self.browser.version.replace("Chrome/", "Chromium ")
-        self.page = self.browser.open(PLAY)
-
-    def play(self, packed):
-        return self.page.call("packed => playPacked(packed)", packed, timeout=300)
-
-    def close(self):
-        self.browser.close()
-
-
-class Firefox:
-    """Marionette is a line of JSON texts over a local socket, each with its length before it."""
-
-    name = "Firefox"
-
-    def __init__(self):
-        path = next(filter(None, map(shutil.which, ("firefox-esr", "firefox"))), None)
-        if not path:
-            raise NotDriven("no firefox here: it is in the Debian package firefox-esr")
-        self.profile = tempfile.mkdtemp(prefix="clients-firefox-")
-        settings = {"marionette.port": 0, "media.autoplay.default": 0, "media.autoplay.blocking_policy": 0,
-                    "datareporting.policy.dataSubmissionEnabled": False, "app.update.enabled": False,
-                    "browser.shell.checkDefaultBrowser": False, "media.gmp-manager.updateEnabled": False}
-        lines = [f"user_pref({json.dumps(name)}, {json.dumps(value)});" for name, value in settings.items()]
-        Path(self.profile, "user.js").write_text("\n".join(lines) + "\n")
-        self.process = subprocess.Popen(
-            [path, "--marionette", "--headless", "--no-remote", "--profile", self.profile], start_new_session=True,
-            env={**os.environ, "HOME": self.profile}, stdout=subprocess.DEVNULL, stderr=subprocess.DEVNULL)
-        try:
-            self.connect()
-        except (OSError, AssertionError) as error:
-            self.close()
-            raise NotDriven(f"it did not answer: {error}") from error
-
-    def connect(self):
-        place = Path(self.profile, "MarionetteActivePort")
-        kit.wait_until(lambda: place.exists() and place.read_text().strip(), "Firefox", 60)
-        self.socket = socket.create_connection(("127.0.0.1", int(place.read_text())), timeout=300)
-        self.stream = self.socket.makefile("rb")
-        self.last_id = 0
-        self.read()
-        facts = self.ask("WebDriver:NewSession", {})["capabilities"]
-        self.version = f"Firefox {facts['browserVersion']}"
-        self.ask("WebDriver:SetTimeouts", {"script": 300000})
-        self.ask("WebDriver:Navigate", {"url": PLAY.as_uri()})
-
-    def read(self):
-        length = b""
-        while not length.endswith(b":"):
-            byte = self.stream.read(1)
-            if not byte:
-                raise ConnectionError("Firefox has ended")
-            length += byte
-        return json.loads(self.stream.read(int(length[:-1])))
-
-    def ask(self, command, values):
-        self.last_id += 1
-        text = json.dumps([0, self.last_id, command, values]).encode()
-        self.socket.sendall(b"%d:%s" % (len(text), text))
-        _, _, error, answer = self.read()
-        if error:
-            raise RuntimeError(f"{command}: {error.get('message')}")
-        return answer
-
-    def play(self, packed):
-        script = """
-            const [packed, done] = arguments;
-            const page = window.wrappedJSObject || window;
-            page.playPacked(packed).then(done, (error) => done(`problem: ${error.message}`));
-        """
-        told = self.ask("WebDriver:ExecuteAsyncScript", {"script": script, "args": [packed]})["value"]
-        if told.startswith("problem: "):
-            raise RuntimeError(told)
-        return told
-
-    def close(self):
-        with contextlib.suppress(Exception):
-            self.ask("Marionette:Quit", {"flags": ["eForceQuit"]})
-            self.process.wait(timeout=5)
-        if self.process.poll() is None:
-            os.killpg(self.process.pid, signal.SIGKILL)
-            self.process.wait()
-        shutil.rmtree(self.profile, ignore_errors=True)
-
-
-BROWSERS = (Chromium, Firefox)
-
-
 def packed(script):
     """A script with its files, as play.html takes them."""
-    text = Path(script).read_text(encoding="utf-8")
-    names = [blob[5:] for blob in tomllib.loads(text).get("blobs", []) if blob.startswith("file ")]
-    files = {name: base64.b64encode((Path(script).parent / name).read_bytes()).decode() for name in names}
-    return json.dumps({"script": text, "files": files, "options": {}})
+    read = scripts.read(script)
+    files = {name: base64.b64encode(path.read_bytes()).decode() for name, path in read.files.items()}
+    return json.dumps({"script": read.text, "files": files, "options": {}})
 
 
 # The rows.
@@ -188,7 +78,7 @@ def try_row(row, browser):
     """What is otherwise than the row tells each time that it is tried."""
     script = ROWS / row["script"]
     for _ in range(TRIES):
-        told = browser.play(packed(script))
+        told = browser.page(PLAY).call("playPacked", packed(script))
         run, _, found = compare.compared(script, compare.printed(script), told)
         changed = list(changes(row, browser, run, found))
         if not changed:
@@ -197,15 +87,15 @@ def try_row(row, browser):
 
 
 def try_rows(rows, browser):
-    changed = 0
+    """How many rows have changed, and the lines on them."""
+    changed, lines = 0, []
     for row in rows:
         found = try_row(row, browser)
         changed += bool(found)
-        print(f"{'CHANGED' if found else 'as told':8} {row['row']} ({row['script']})", flush=True)
-        for sentence in found:
-            print(f"         {sentence}")
-    print(f"{browser.version}: {len(rows) - changed} rows as told, {changed} changed")
-    return changed
+        lines.append(f"{'CHANGED' if found else 'as told':8} {row['row']} ({row['script']})")
+        lines += [f"         {sentence}" for sentence in found]
+    lines.append(f"{browser.version}: {len(rows) - changed} rows as told, {changed} changed")
+    return changed, lines
 
 
 def chosen_rows(words):
@@ -214,38 +104,54 @@ def chosen_rows(words):
             if not words or any(word.lower() in f"{row['row']} {row['script']}".lower() for word in words)]
 
 
-def play_one(script, browser):
-    print(f"\n{browser.version}")
-    return compare.compare(script, browser.play(packed(script)))
+def play_one(script):
+    """Plays a script on each browser, and lays each beside the program; the statuses."""
+    told = on_each(lambda browser: ((browser.version, browser.page(PLAY).call("playPacked", packed(script))), []))
+    statuses = []
+    for version, text in told:
+        print(f"\n{version}")
+        statuses.append(compare.compare(script, text))
+    return statuses
 
 
-def on_each(work):
-    """Does the work on each installed browser, and adds up what it answers."""
+def on_one(work, kind, small_quota):
+    """Does the work on a browser: its answer, None where it is not driven, and the lines on it."""
+    try:
+        browser = kind(small_quota)
+    except NotDriven as problem:
+        return None, [f"{kind.name} is not driven: {problem}"]
+    try:
+        return work(browser)
+    finally:
+        browser.close()
+
+
+def on_each(work, small_quota=False):
+    """Does the work on all installed browsers at the same time. Answers what each answered, and prints its lines."""
     answers = []
-    for kind in BROWSERS:
-        try:
-            browser = kind()
-        except NotDriven as problem:
-            print(f"{kind.name} is not driven: {problem}")
-            continue
-        try:
-            answers.append(work(browser))
-        finally:
-            browser.close()
+    with concurrent.futures.ThreadPoolExecutor() as pool:
+        for answer, lines in pool.map(lambda kind: on_one(work, kind, small_quota), BROWSERS):
+            print("".join(f"{line}\n" for line in lines), end="", flush=True)
+            answers += [] if answer is None else [answer]
     return answers
 
 
 def main(words):
     if words[:1] == ["--play"] and len(words) == 2:
-        answers = on_each(lambda browser: play_one(words[1], browser))
+        scripts.read(words[1])
+        answers = play_one(words[1])
     elif any(word.startswith("-") for word in words):
         raise compare.NotCompared(__doc__.strip())
     else:
         rows = chosen_rows(words)
         if not rows:
             raise compare.NotCompared("no row has these words in it")
-        compare.program_path()
-        answers = on_each(lambda browser: try_rows(rows, browser))
+        scripts.program_path()
+        answers = []
+        for small_quota in (False, True):
+            chosen = [row for row in rows if row.get("small_quota", False) == small_quota]
+            if chosen:
+                answers += on_each(lambda browser: try_rows(chosen, browser), small_quota)
     if not answers:
         return 2
     return 1 if any(answers) else 0

@@ -5,6 +5,8 @@
     ./check.py page_use      runs those of tests/test_page_use.py
     ./check.py page_use.dark runs those whose name has these letters
 
+    ROUNDS=1 ./check.py      tries each page of tests/test_pages.py once, and not five times
+
 A test that needs what is not installed is skipped, and its line says what is
 missing. The tests that run the program take its path from the environment
 variable MSEPLAY, else crates/mseplay/out/mseplay, else that of
@@ -110,12 +112,15 @@ def run_module(name, wanted, report):
     if module is None:
         report.tell(group, outcome, 0.0)
         return
-    for function in tests_of(module):
-        full = f"{group}.{short(function.__name__)}"
-        if is_wanted(full, wanted):
-            start = time.monotonic()
-            outcome = run_one(function)
-            report.tell(full, outcome, time.monotonic() - start)
+    try:
+        for function in tests_of(module):
+            full = f"{group}.{short(function.__name__)}"
+            if is_wanted(full, wanted):
+                start = time.monotonic()
+                outcome = run_one(function)
+                report.tell(full, outcome, time.monotonic() - start)
+    finally:
+        getattr(module, "close", lambda: None)()
 
 
 def main(wanted):

@@ -5,8 +5,12 @@
                                   or a script and what play.html says of it
     compare.py ARCHIVE            recording.zip of record.js, which has both
 
-The program is run in the folder of the script. Its path is that of the environment variable MSEPLAY, else
-crates/mseplay/out/mseplay, else that of bench/unproved.py, mseplay-unproved at the top.
+A recording is replayed first, by replay.py: what is played is the script that comes to where the browser was before
+each call. Files that a script names are looked for in the folder that this is called in, as the program does, and then
+beside the script; it is said which were taken.
+
+The program's path is that of the environment variable MSEPLAY, else crates/mseplay/out/mseplay, else that of
+bench/unproved.py, mseplay-unproved at the top.
 
 Compared are the calls in their order, their answers, the events of each target in their order, and what is there in the
 end; times to 3 microseconds. Where an event of one target comes before or behind one of another is shown and not
@@ -19,11 +23,9 @@ Status 0: no difference but those that a row tells of; 1: another one; 2: nothin
 import difflib
 import os
 import re
-import subprocess
 import sys
 import tempfile
 import textwrap
-import tomllib
 import zipfile
 from dataclasses import dataclass, field
 from pathlib import Path
@@ -32,16 +34,13 @@ sys.dont_write_bytecode = True
 sys.path.insert(0, str(Path(__file__).resolve().parent))
 
 import known  # noqa: E402
+import live  # noqa: E402
+import replay  # noqa: E402
+import scripts  # noqa: E402
 
-TOP = Path(__file__).resolve().parent.parent
-# Where the program is looked for: proved, else unproved.
-BUILT = [TOP / "crates/mseplay/out/mseplay", TOP / "mseplay-unproved"]
+NotCompared = scripts.NotPlayed
 ANSWER = r"(done|refused \w+|ranges .*|range .*|source .*)"
 STATE = ("source", "duration", "level", "position", "paused", "seeking", "error")
-
-
-class NotCompared(Exception):
-    """Nothing can be compared; the text says why."""
 
 
 # Lines.
@@ -129,17 +128,43 @@ class Difference:
     is_of_element_error: bool = False
 
 
+# Events of the element that come when they like: they never say which other lines are partners.
+LOOSE = ("timeupdate", "waiting", "playing", "durationchange")
+
+
+def is_loose(line):
+    return line.target == "element" and line.type in LOOSE
+
+
 def paired(program, browser):
-    """The partners of lines, and the lines without one. Partners have one group and one key, and come in one order."""
+    """The partners of lines, and the lines without one. Partners have one group and one key, and come in one order.
+    Loose lines have partners between those of the others."""
     pairs, lone_ours, lone_theirs = {}, [], []
     for group in dict.fromkeys(line.group for line in [*program, *browser] if line.group):
         ours = [line for line in program if line.group == group]
         theirs = [line for line in browser if line.group == group]
-        places = common([line.key for line in ours], [line.key for line in theirs])
-        pairs.update({ours[i].index: theirs[j] for i, j in places})
-        lone_ours += [line for i, line in enumerate(ours) if i not in dict(places)]
-        lone_theirs += [line for j, line in enumerate(theirs) if j not in {j for _, j in places}]
+        found = partners([line for line in ours if not is_loose(line)], [line for line in theirs if not is_loose(line)])
+        found += loose_partners(ours, theirs, found)
+        pairs.update({one.index: other for one, other in found})
+        done = {one.index for one, _ in found}, {other.index for _, other in found}
+        lone_ours += [line for line in ours if line.index not in done[0]]
+        lone_theirs += [line for line in theirs if line.index not in done[1]]
     return pairs, lone_ours, lone_theirs
+
+
+def partners(ours, theirs):
+    return [(ours[i], theirs[j]) for i, j in common([line.key for line in ours], [line.key for line in theirs])]
+
+
+def loose_partners(ours, theirs, found):
+    """The partners of the loose lines, in each space between two lines that have partners."""
+    bounds = [(-1, -1), *[(one.index, other.index) for one, other in found], (sys.maxsize, sys.maxsize)]
+    pairs = []
+    for (first, other_first), (last, other_last) in zip(bounds, bounds[1:]):
+        within = [line for line in ours if first < line.index < last and is_loose(line)]
+        beside = [line for line in theirs if other_first < line.index < other_last and is_loose(line)]
+        pairs += partners(within, beside) if within and beside else []
+    return pairs
 
 
 def common(ours, theirs):
@@ -208,20 +233,17 @@ def as_answer(line, fields):
 
 class Run:
     def __init__(self, script, program_text, browser_text):
-        self.folder = Path(script).resolve().parent
-        self.script = tomllib.loads(Path(script).read_text(encoding="utf-8"))
+        read = script if isinstance(script, scripts.Script) else scripts.read(script)
+        self.script = read.values
         self.program, self.browser = read_lines(program_text), read_lines(browser_text)
-        self.blobs = [self.blob(text) for text in self.script.get("blobs", [])]
+        if replay.is_recording(read.text) and not any(line.kind == "state" for line in self.browser):
+            # what was there before a page lost its source may not be known
+            self.program = [line for line in self.program if line.group != "closing"]
+        self.blobs = read.blobs()
         told = re.search(r"^fault \d+ (.*) buffer \d+ at \d+$", program_text, re.M)
         self.fault = told[1] if told else None
         self.notes = [line.text[2:] for line in self.browser if line.kind == "#"]
-        self.name = browser_name(self.notes, Path(script).read_text(encoding="utf-8"))
-
-    def blob(self, text):
-        if text.startswith("hex "):
-            return bytes.fromhex(text[4:])
-        path = self.folder / text[5:]
-        return path.read_bytes() if path.exists() else b""
+        self.name = browser_name(self.notes, read.text)
 
     @staticmethod
     def has(lines, target, *types):
@@ -451,32 +473,35 @@ def report(run, pairs, found, width=None):
     return 1 if lone else 0
 
 
-# The program.
-
-
-def program_path():
-    named = os.environ.get("MSEPLAY")
-    path = Path(named) if named else next(filter(Path.is_file, BUILT), BUILT[0])
-    if not path.is_file():
-        raise NotCompared(f"no program at {path}: build it with `rt run` in crates/mseplay or by bench/unproved.py, "
-                          "or give its path in MSEPLAY")
-    return str(path.resolve())
+# Scripts and recordings.
 
 
 def printed(script):
     """What the program prints of a script."""
-    path = Path(script).resolve()
-    if not path.is_file():
-        raise NotCompared(f"no script at {script}")
-    done = subprocess.run([program_path(), "play", path.name], cwd=path.parent, capture_output=True)
-    text = done.stdout.decode("utf-8", "replace")
-    if done.returncode not in (0, 6, 7):
-        raise NotCompared(f"mseplay ends with status {done.returncode} on {script}: {text.strip() or 'no line'}")
-    return text
+    return scripts.printed(scripts.read(script))
 
 
 def compare(script, browser_text, width=None):
-    return report(*compared(script, printed(script), browser_text), width)
+    read = scripts.read(script)
+    for sentence in read.took:
+        print(f"# {sentence}")
+    if replay.is_recording(read.text):
+        return compare_recording(read, browser_text, width)
+    return report(*compared(script, scripts.printed(read), browser_text), width)
+
+
+def compare_recording(read, browser_text, width=None):
+    return report(*compared_recording(read, browser_text), width)
+
+
+def compared_recording(read, browser_text):
+    """A recording is replayed, and what the program prints of that script is compared."""
+    try:
+        done = replay.replayed(read.text, browser_text, read.files.__getitem__)
+    except live.NoEngine as problem:
+        raise NotCompared(f"a recording is replayed by a live session, and none is here: {problem}") from problem
+    script = scripts.of_text(done.script, read.files)
+    return compared(script, scripts.printed(script), done.browser)
 
 
 def compare_archive(path):
@@ -484,9 +509,10 @@ def compare_archive(path):
         try:
             with zipfile.ZipFile(path) as archive:
                 archive.extractall(folder)
+            told = Path(folder, "browser.txt").read_text(encoding="utf-8")
         except (OSError, zipfile.BadZipFile) as error:
             raise NotCompared(f"{path} is no archive of record.js: {error}") from error
-        return compare(Path(folder) / "recording.toml", (Path(folder) / "browser.txt").read_text(encoding="utf-8"))
+        return compare_recording(scripts.read(Path(folder, "recording.toml"), folder), told)
 
 
 def main(words):

@@ -292,6 +292,17 @@ def not_yet_decoded(difference, run):
         difference, (2, 3, 4), (1,))
 
 
+def no_metadata_yet(difference, run):
+    """The run ended before the browser told of the metadata, whose bytes are there: level 0."""
+    last = next((line.fields for line in run.browser if line.kind == "state"), {})
+    if last.get("level") != 0 or last["error"] or run.has(run.browser, "element", "loadedmetadata"):
+        return False
+    if is_event(difference, "element", "loadedmetadata", "durationchange", *LEVEL_EVENTS):
+        return only_program(difference)
+    return is_level(difference, (1, 2, 3, 4), (0,)) or (
+        difference.field == "duration" and values(difference)[1] == "nan")
+
+
 def passed(difference, run):
     """The types of the events of the element that a moved one comes behind on one side and before on the other."""
     ours, theirs = (Counter(line.type for line in lines[:own.index] if line.target == "element") for lines, own in
@@ -382,12 +393,15 @@ def duration_cut(difference, run):
     return any(near(browser[-1][1], time) and program[-1][1] > time for time in asked)
 
 
-def aborted_at_once(difference, run):
-    """An abort follows its append with no line between; the program keeps nothing."""
+def has_abort_at_once(run):
     steps = run.steps()
     pairs = [(one.split(), other.split()) for one, other in zip(steps, steps[1:])]
-    is_there = any(one[0] == "append" and other == ["abort", one[1]] for one, other in pairs)
-    if not is_there:
+    return any(one[0] == "append" and other == ["abort", one[1]] for one, other in pairs)
+
+
+def aborted_at_once(difference, run):
+    """An abort follows its append with no line between; the program keeps nothing."""
+    if not has_abort_at_once(run):
         return False
     if difference.field == "ranges":
         return values(difference)[0] == [] and values(difference)[1] != []
@@ -396,6 +410,19 @@ def aborted_at_once(difference, run):
     return (is_of_level(difference) or is_level(difference, (0,), (1, 2, 3, 4))
             or is_event(difference, "element", "loadedmetadata", "durationchange")
             or is_event(difference, "activesourcebuffers", "addsourcebuffer"))
+
+
+def abort_of_segment(difference, run):
+    """An abort follows the append of a media segment with no line between; the browser drops its frames."""
+    if not has_abort_at_once(run):
+        return False
+    if difference.field == "ranges":
+        program, browser = values(difference)
+        return program != browser and all(
+            any(ours[0] - NEAR <= first and last <= ours[1] + NEAR for ours in program) for first, last in browser)
+    if is_event(difference, "element", *LEVEL_EVENTS):
+        return only_program(difference)
+    return is_level(difference, (2, 3, 4), (1,))
 
 
 def level_of_seek(difference, run):
@@ -408,11 +435,34 @@ def level_of_seek(difference, run):
 
 
 def told_late(difference, run):
-    """An event of a seek and one of the level that change places."""
-    seeks = ("seeking", "seeked", "timeupdate")
-    if not is_moved(difference, *seeks, *LEVEL_EVENTS):
+    """An event of a seek, of the duration or of what plays, and one of the level, that change places."""
+    others = ("seeking", "seeked", "timeupdate", "durationchange", "play", "pause")
+    if not is_moved(difference, *others, *LEVEL_EVENTS):
         return False
-    return bool(passed(difference, run) & set(LEVEL_EVENTS if difference.program.type in seeks else seeks))
+    return bool(passed(difference, run) & set(LEVEL_EVENTS if difference.program.type in others else others))
+
+
+def calls_before(lines, line):
+    return sum(1 for one in lines[:line.index] if one.kind in ("call", "listener"))
+
+
+def passed_level_four(difference, run):
+    """The program came to level 4 when the browser had no picture yet, and less was ahead when it had one."""
+    if not is_event(difference, "element", "canplaythrough") or not only_program(difference):
+        return False
+    first = next((line for line in run.browser if line.target == "element" and line.type == "loadeddata"), None)
+    return first is None or calls_before(run.browser, first) > calls_before(run.program, difference.program)
+
+
+def plays_first(difference, run):
+    """`play` at a level of the program that has data, and before the browser has its first picture."""
+    if is_moved(difference, "play"):
+        return bool(passed(difference, run)) and passed(difference, run) <= set(LEVEL_EVENTS)
+    if not is_event(difference, "element", "waiting") or not only_browser(difference):
+        return False
+    events = [line for line in run.browser[:difference.browser.index + 1] if line.target == "element"
+              and line.type != "timeupdate"]
+    return len(events) > 1 and events[-2].type == "play" and run.has(run.program, "element", "playing")
 
 
 def has_sought(difference, run):
@@ -499,6 +549,18 @@ def later_buffer(difference, run):
     return values(difference) == ("refused QuotaExceededError", "done")
 
 
+def quota_of_browser(difference, run):
+    """The browser refused an append for which the program made room ahead of the position."""
+    return (difference.field == "answer" and difference.program.words[0] == "append"
+            and values(difference) == ("done", "refused QuotaExceededError"))
+
+
+def appended_at_once(difference, run):
+    """Behind a fault: the browser takes an append as long as it did not tell the element of the error."""
+    return (run.fault is not None and difference.field == "answer" and difference.program.words[0] == "append"
+            and values(difference) == ("refused InvalidStateError", "done"))
+
+
 def quota_of_script(difference, run):
     """The script sets a quota; the program refused an append, or evicted frames, where the browser had room."""
     if "quota" not in run.script:
@@ -558,9 +620,12 @@ KNOWN = [
     Known("A source buffer behind the metadata", later_buffer, CHROMIUM, ends=True),
     Known("Bytes that are no MP4.", no_mp4, FIREFOX, ends=True),
     Known("Two track fragments without default-base-is-moof.", two_fragments, ends=True),
+    Known("a `moof` that is broken inside", fault_of("Moof Size"), FIREFOX, ends=True),
+    Known("a `moof` that is broken inside", appended_at_once, CHROMIUM, ends=True),
     Known("Less than in browsers", less_is_looked_at, ends=True),
     Known("Nothing is decoded", not_decoded, ends=True),
     Known("The quota", quota_of_script, ends=True),
+    Known("The quota", quota_of_browser, ends=True),
     Known("Sound whose priming is no whole number of frames.", priming),
     Known("Append windows on sound.", window_on_sound),
     Known("Append windows on sound.", window_trims, FIREFOX),
@@ -571,6 +636,7 @@ KNOWN = [
     Known("Gaps", overlapped, CHROMIUM),
     Known("Chromium truncates the duration", duration_cut, CHROMIUM),
     Known("An abort in the same task as the append", aborted_at_once, FIREFOX),
+    Known("An abort in the same task as the append", abort_of_segment, CHROMIUM),
     Known("A seek before anything is appended", seek_before_all),
     Known("An error before there is metadata", error_without_metadata),
     Known("The end of a stream without metadata", end_without_metadata),
@@ -584,8 +650,11 @@ KNOWN = [
     Known("A seek to the end", seek_to_the_end),
     Known("A track that ends early", track_ends_early, FIREFOX),
     Known("Levels and seeks", level_of_seek),
+    Known("`play()` behind the first segment", plays_first),
     Known("When a level is told.", told_late),
+    Known("When a level is told.", passed_level_four),
     Known("When a level is told.", not_yet_decoded),
+    Known("When a level is told.", no_metadata_yet),
     Known("Levels.", level_four_early, CHROMIUM),
     Known("Levels.", level_four_stays, FIREFOX),
     Known("What plays", clock),

@@ -49,15 +49,7 @@ function ticksOf(seconds) {
   return seconds < 0 ? -near : near;
 }
 
-// a time as the program prints it
-function printedTime(seconds) {
-  if (Number.isNaN(seconds)) return "nan";
-  if (seconds === Infinity) return "inf";
-  const time = scriptTime(seconds);
-  return time.endsWith("/1") ? String(BigInt(time.slice(0, -2)) * SECOND) : time;
-}
-
-// a time as a script writes it: in ticks, and in seconds where ticks would have more than 24 digits
+// a time as a script writes it: in ticks, and in seconds where ticks would have more digits than a script takes
 function scriptTime(seconds) {
   if (Number.isNaN(seconds)) return "nan";
   if (seconds === Infinity) return "inf";
@@ -65,20 +57,15 @@ function scriptTime(seconds) {
   return String(ticks).length <= 24 ? String(ticks) : `${ticks / SECOND}/1`;
 }
 
+// a time as the program prints it
+function printedTime(seconds) {
+  return scriptTime(seconds).replace(/^(.*)\/1$/, (_, whole) => String(BigInt(whole) * SECOND));
+}
+
 // A call is kept as the words of its line: names, numbers and times.
 
-function asTime(seconds) {
-  return {seconds};
-}
-
-function times(values, count) {
-  return Array.from({length: count}, (_, i) => asTime(Number(values[i])));
-}
-
-// a type is the last word of its line, and the empty one is none
-function typeWords(...words) {
-  return words.at(-1) === "" ? words.slice(0, -1) : words;
-}
+const asTime = (seconds) => ({seconds});
+const times = (values, count) => Array.from({length: count}, (_, i) => asTime(Number(values[i])));
 
 // the line of a call, as the program prints it
 function lineOf(words, timeText = printedTime) {
@@ -104,21 +91,30 @@ function rangeText(ranges) {
 function stateText(source, element) {
   const error = element && element.error ? element.error.code : 0;
   const facts = element || {readyState: 0, currentTime: 0, paused: true, seeking: false};
+  // before there is metadata `currentTime` is where playback will start, and the position is 0
+  const position = facts.readyState ? facts.currentTime : 0;
   return `source ${source.readyState} duration ${printedTime(source.duration)} level ${facts.readyState}`
-    + ` position ${printedTime(facts.currentTime)} paused ${facts.paused} seeking ${facts.seeking}`
+    + ` position ${printedTime(position)} paused ${facts.paused} seeking ${facts.seeking}`
     + ` error ${error}`;
 }
 
 // The browser's own properties and functions, which the recorder reads by itself.
 
-function descriptor(type, name) {
-  return Object.getOwnPropertyDescriptor(type.prototype, name);
-}
+const descriptor = (type, name) => Object.getOwnPropertyDescriptor(type.prototype, name);
 
 const native = {
   bufferRanges: descriptor(SourceBuffer, "buffered").get,
   elementRanges: descriptor(HTMLMediaElement, "buffered").get,
+  warn: console.warn.bind(console),
 };
+
+// What cannot be recorded is told once.
+const warned = new Set();
+
+function warnOnce(text) {
+  if (!warned.has(text)) native.warn(`record.js: ${text}`);
+  warned.add(text);
+}
 
 // What is recorded of one MediaSource.
 
@@ -144,24 +140,25 @@ class Recording {
     this.pieces = new Map();
     this.isAttached = false;
     this.isOver = false;
+    // the read that stands last, with what the same read told since then
+    this.lastRead = null;
+    // what was there when the page left the source, and what came behind it
+    this.closing = null;
+    this.behind = [];
+    // the recording of the life before, while events of its end are to come
+    const before = ofSource.get(source);
+    this.before = before && !before.isClosed ? before : null;
     this.expected = {play: 0, pause: 0, seeking: 0};
-    this.watch(source, "source", EVENTS.source);
-    this.watch(source.sourceBuffers, "sourcebuffers", EVENTS.list);
-    this.watch(source.activeSourceBuffers, "activesourcebuffers", EVENTS.list);
-  }
-
-  // the recorder's listeners capture, so they hear an event before those of the page
-  watch(target, name, types) {
-    for (const type of types) {
-      target.addEventListener(type, (event) => this.hear(event, name, type), {capture: true});
-    }
+    const find = () => ofSource.get(source);
+    watch(source, find, {source: EVENTS.source});
+    watch(source.sourceBuffers, find, {sourcebuffers: EVENTS.list});
+    watch(source.activeSourceBuffers, find, {activesourcebuffers: EVENTS.list});
   }
 
   attachTo(element) {
     if (this.element === element) return;
     this.element = element;
-    this.watch(element, "element", EVENTS.element);
-    this.watch(element, "other", EVENTS.other);
+    watch(element, () => ofElement.get(element), {element: EVENTS.element, other: EVENTS.other});
     if (element.currentTime > 0) this.unasked("before the source was attached", ["seek", asTime(element.currentTime)]);
     if (!element.paused) this.unasked("before the source was attached", ["play"]);
   }
@@ -180,6 +177,7 @@ class Recording {
 
   put(entry) {
     if (this.isOver) return entry;
+    this.finishRead();
     if (!this.isAttached && this.source.readyState === "open") {
       this.isAttached = true;
       this.entries.push({kind: "call", words: ["attach"], answer: "done", ...where(), within: null, ...this.moment()});
@@ -193,18 +191,46 @@ class Recording {
   }
 
   hear(event, target, type) {
-    if (!event.isTrusted || this.isOver) return;
+    if (!event.isTrusted) return;
+    if (this.isOver || (this.before && event.target !== this.element)) {
+      this.hearBehind(event, target, type);
+      return;
+    }
     if (type === "sourceopen" && !this.element) attachShown(this.source);
-    if (event.target === this.element && ofElement.get(this.element) !== this) return;
     if (type === "sourceclose" && !(this.element && this.element.error)) {
-      this.note("the source was closed: the page took it away, so the script ends here");
-      this.isOver = true;
+      this.endUnseen();
       return;
     }
     if (target === "element") this.explain(type);
     enterEvent(event);
-    const entry = this.put({kind: "event", target, type, calls: [], ...where(), ...this.moment()});
+    const entry = this.put({kind: "event", target, type, ...where(), ...this.moment()});
     now.entry = entry;
+  }
+
+  // Behind its end, up to sourceclose. A source that is opened again has another life, with a recording of its own.
+  hearBehind(event, target, type) {
+    const ended = this.before || this;
+    if (type === "sourceopen" && ended === this) renewed(this).hear(event, target, type);
+    else if (ended.closing) ended.behind.push(`${target === "other" ? "element" : target} ${type}`);
+    if (type === "sourceclose") this.before = null;
+    ended.isClosed ||= type === "sourceclose";
+  }
+
+  // the page leaves the source by this call, which is made behind this: what is there now closes the script
+  leave(text) {
+    if (this.isOver) return;
+    this.note(`left by ${text}`);
+    this.endMoment = this.moment();
+    this.closing = closingLines(this);
+    this.isOver = true;
+  }
+
+  // the source was taken away by no call that is wrapped here, and what was there before it is not known
+  endUnseen() {
+    const isOfEnd = ({kind, type}) => kind === "event" && ["removesourcebuffer", "emptied", "abort"].includes(type);
+    while (this.entries.length && isOfEnd(this.entries.at(-1))) this.entries.pop();
+    this.note("the source was closed: the page took it away, so the script ends here");
+    this.isOver = true;
   }
 
   // play, pause and seeks that no call asked for, as by autoplay or a person at the controls
@@ -229,24 +255,38 @@ class Recording {
 
   // a call of the page: its words, what was before it, and what it answered
   call(words, answer, moment) {
-    const within = liveEvent();
-    const entry = {kind: "call", words, answer, within, ...where(), ...moment,
-      timeAfter: this.element ? this.element.currentTime : 0};
-    if (this.isRepeated(entry)) return;
-    this.put(entry);
-    if (within) within.calls.push(entry);
+    const timeAfter = this.element ? this.element.currentTime : 0;
+    return this.put({kind: "call", words, answer, within: liveEvent(), ...where(), ...moment, timeAfter});
   }
 
-  // a read that tells the same as the same read just before it
-  isRepeated(entry) {
-    if (!["buffered", "elementbuffered", "seekable"].includes(entry.words[0])) return false;
+  // A read is kept with its first answer and its last one, until anything else comes: what it told is looked at then.
+  read(target, words, answerOf, ranges) {
+    this.finishRead();
+    const answer = answerOf(ranges);
+    const entry = this.repeated(words, answer) ?? this.call(words, answer, this.moment());
+    this.lastRead = {recording: this, target, answerOf, entry, told: null};
+    return this.lastRead;
+  }
+
+  finishRead() {
+    const read = this.lastRead;
+    this.lastRead = null;
+    if (!read?.told) return;
+    const answer = read.answerOf(read.told);
+    if (answer === read.entry.answer) return;
+    const moment = this.moment();
+    this.entries.push({...read.entry, ...moment, timeAfter: moment.time, answer});
+  }
+
+  // the same read just before one that tells the same
+  repeated(words, answer) {
     for (let i = this.entries.length - 1; i >= 0; i -= 1) {
       const before = this.entries[i];
       const isRead = before.kind === "call" && /buffered|seekable/.test(before.words[0]);
-      if (isRead && lineOf(before.words) === lineOf(entry.words)) return before.answer === entry.answer;
-      if (!isRead && !(before.kind === "event" && ["timeupdate", "progress"].includes(before.type))) return false;
+      if (isRead && lineOf(before.words) === lineOf(words)) return before.answer === answer ? before : null;
+      if (!isRead && !(before.kind === "event" && ["timeupdate", "progress"].includes(before.type))) return null;
     }
-    return false;
+    return null;
   }
 
   numberOf(buffer) {
@@ -273,6 +313,20 @@ class Recording {
   }
 }
 
+// Listens to a target once, for all recordings that it has: the recorder hears an event before the page does, since its
+// listeners capture and are the first.
+const watched = new WeakSet();
+
+function watch(target, find, types) {
+  if (watched.has(target)) return;
+  watched.add(target);
+  for (const [name, list] of Object.entries(types)) {
+    for (const type of list) {
+      target.addEventListener(type, (event) => find()?.hear(event, name, type), {capture: true});
+    }
+  }
+}
+
 function standsAtRangeEnd(element) {
   const ranges = native.elementRanges.call(element);
   const time = element.currentTime;
@@ -284,9 +338,7 @@ function standsAtRangeEnd(element) {
   return false;
 }
 
-function sameBytes(some, others) {
-  return some.length === others.length && some.every((byte, i) => byte === others[i]);
-}
+const sameBytes = (some, others) => some.length === others.length && some.every((byte, i) => byte === others[i]);
 
 // Where the page is: within which event, and in which task. A trusted event that is being told has a
 // phase, also while the microtasks of its listeners run; outside of events a message to oneself
@@ -328,40 +380,57 @@ const sourceOfUrl = new Map();
 
 function recordingOf(source) {
   if (!ofSource.has(source)) {
-    const recording = new Recording(source);
-    recordings.push(recording);
-    ofSource.set(source, recording);
+    const recording = begun(source);
     if (source.sourceBuffers.length) {
       recording.isOver = true;
-      console.warn("record.js came too late for a media source that has buffers already: it is not recorded");
+      warnOnce("it came too late for a media source that has buffers already, which is not recorded");
     }
   }
   return ofSource.get(source);
 }
 
+function begun(source) {
+  const recording = new Recording(source);
+  recordings.push(recording);
+  ofSource.set(source, recording);
+  return recording;
+}
+
+// the recording of the next life of a source
+function renewed(recording) {
+  const next = begun(recording.source);
+  if (recording.element) attach(recording.element, recording.source);
+  return next;
+}
+
 function attach(element, source) {
-  const recording = recordingOf(source);
+  const before = recordingOf(source);
+  const recording = before.isOver && before.closing ? begun(source) : before;
   ofElement.set(element, recording);
   recording.attachTo(element);
 }
 
+// where elements are: documents, and shadow roots also where they are closed
+const roots = [];
+
 // the element of a page that has the source by another way than those below, such as a <source> in it
 function attachShown(source) {
-  const element = [...document.querySelectorAll("video, audio")].find((one) =>
-    one.srcObject === source || sourceOfUrl.get(one.currentSrc) === source);
+  const elements = roots.flatMap((root) => [...root.deref()?.querySelectorAll("video, audio") || []]);
+  const element = elements.find((one) => one.srcObject === source || sourceOfUrl.get(one.currentSrc) === source);
   if (element) attach(element, source);
 }
 
 // Wrapping. `run` makes the browser's own call; the recorder keeps what it answers or throws.
 
 function recorded(recording, words, run, answerOf = () => "done") {
-  if (!recording || recording.isOver) return run();
   const moment = recording.moment();
   let answer;
   try {
     answer = run();
   } catch (error) {
-    recording.call(words, `refused ${error.name}`, moment);
+    const isOfBytes = words[0] === "append" && error.name === "TypeError";
+    if (isOfBytes) recording.note("not told: appendBuffer, refused TypeError");
+    else recording.call(words, `refused ${error.name}`, moment);
     throw error;
   }
   recording.call(words, answerOf(answer), moment);
@@ -372,251 +441,347 @@ function recorded(recording, words, run, answerOf = () => "done") {
 function untold(recording, text, run) {
   try {
     const answer = run();
-    if (recording) recording.note(`not told: ${text}, done`);
+    recording.note(`not told: ${text}, done`);
     return answer;
   } catch (error) {
-    if (recording) recording.note(`not told: ${text}, refused ${error.name}`);
+    recording.note(`not told: ${text}, refused ${error?.name ?? "otherwise"}`);
     throw error;
   }
 }
 
-function wrapFunction(type, name, record) {
-  const own = type.prototype[name];
-  if (!own) return;
-  type.prototype[name] = {
-    [name](...values) {
-      return record(this, values, () => own.apply(this, values));
-    },
-  }[name];
+// a function in the place of another, with its name and its length
+function inPlaceOf(own, run) {
+  const wrapper = {run(...values) { return run(this, values, () => Reflect.apply(own, this, values)); }}.run;
+  for (const name of ["name", "length"]) {
+    Object.defineProperty(wrapper, name, Object.getOwnPropertyDescriptor(own, name));
+  }
+  return wrapper;
+}
+
+function wrapFunction(object, name, record) {
+  const own = Object.getOwnPropertyDescriptor(object, name);
+  if (own) Object.defineProperty(object, name, {...own, value: inPlaceOf(own.value, record)});
 }
 
 function wrapSetter(type, name, record) {
   const own = descriptor(type, name);
-  if (!own) return;
-  Object.defineProperty(type.prototype, name, {
-    ...own,
-    set(value) {
-      record(this, value, () => own.set.call(this, value));
-    },
-  });
+  if (own) Object.defineProperty(type.prototype, name, {...own, set: inPlaceOf(own.set, record)});
 }
 
-function wrapGetter(type, name, record) {
+// A value that is an object is made a number or a text here, once, and the browser is given what came of it.
+
+const asNumber = (value) => +value;
+const asText = (value) => `${value}`;
+const isObject = (value) => (typeof value === "object" && value !== null) || typeof value === "function";
+
+// up to the first that the browser refuses, since it does not look at those behind it
+function convert(values, kinds) {
+  for (let i = 0; i < kinds.length && i < values.length; i += 1) {
+    if (isObject(values[i])) values[i] = kinds[i](values[i]);
+    if (kinds[i] === asNumber && typeof values[i] === "number" && !Number.isFinite(values[i])) return;
+  }
+}
+
+// The words of a call, or null where no line tells it: a value that was not converted, or a symbol.
+function wordsFor(values, kinds, wordsOf) {
+  if (kinds.some((_, i) => isObject(values[i]))) return null;
+  try {
+    return wordsOf(...values);
+  } catch {
+    return null;
+  }
+}
+
+// A call or a change of an attribute: `find` has its recording, and `words` makes its line of the values.
+function recordedBy({find, kinds = [], least = kinds.length, words, before, after, answer}) {
+  return (target, values, run) => {
+    const recording = find(target);
+    if (!recording || recording.isOver) return run();
+    try {
+      if (values.length >= least) convert(values, kinds);
+    } catch (error) {
+      return untold(recording, "a call whose arguments threw", () => { throw error; });
+    }
+    const line = values.length < least ? null : wordsFor(values, kinds, (...each) => words(recording, target, ...each));
+    if (!line) return untold(recording, "a call of arguments that no line tells", run);
+    before?.(recording, target, ...values);
+    return recorded(recording, line, after ? () => after(recording, run()) : run, answer && (() => answer(target)));
+  };
+}
+
+// Reads cost a page little: where the same one stands last, nothing is looked at.
+function wrapRead(type, name, find, word, answerOf) {
   const own = descriptor(type, name);
-  Object.defineProperty(type.prototype, name, {
-    ...own,
-    get() {
-      return record(this, () => own.get.call(this));
+  const {get} = own;
+  let last = {target: null};
+  const reader = {
+    read() {
+      if (last.target === this && last.recording.lastRead === last) return last.told = get.call(this);
+      const recording = find.get(this);
+      if (recording === undefined || recording.isOver) return get.call(this);
+      const words = find === ofBuffer ? [word, recording.numberOf(this)] : [word];
+      let answer;
+      try {
+        answer = get.call(this);
+      } catch (error) {
+        recording.call(words, `refused ${error.name}`, recording.moment());
+        throw error;
+      }
+      last = recording.read(this, words, answerOf, answer);
+      return answer;
     },
-  });
+  }.read;
+  Object.defineProperty(reader, "name", Object.getOwnPropertyDescriptor(get, "name"));
+  Object.defineProperty(type.prototype, name, {...own, get: reader});
 }
 
 // The media source.
 
-window.MediaSource = new Proxy(window.MediaSource, {
-  construct(target, values, made) {
-    const source = Reflect.construct(target, values, made);
-    recordingOf(source);
-    return source;
-  },
-});
-MediaSource.prototype.constructor = MediaSource;
+const isSource = (object) => Object.prototype.toString.call(object) === "[object MediaSource]";
 
-wrapFunction(MediaSource, "addSourceBuffer", (source, values, run) => {
-  const recording = recordingOf(source);
-  if (!values.length) return untold(recording, "addSourceBuffer without a type", run);
-  return recorded(recording, typeWords("add", String(values[0])), () => {
-    const buffer = run();
-    recording.watch(buffer, `buffer ${recording.buffers.push(buffer) - 1}`, EVENTS.buffer);
-    ofBuffer.set(buffer, recording);
-    return buffer;
+// a type is the last word of its line, and the empty one is none
+const typeWords = (...words) => words.at(-1) === "" ? words.slice(0, -1) : words;
+
+function wrapSources(realm) {
+  const type = realm.MediaSource;
+  realm.MediaSource = new Proxy(type, {
+    construct(target, values, made) {
+      const source = Reflect.construct(target, values, made);
+      recordingOf(source);
+      return source;
+    },
   });
-});
-
-wrapFunction(MediaSource, "removeSourceBuffer", (source, values, run) => {
-  const recording = recordingOf(source);
-  const number = recording.numberOf(values[0]);
-  if (number < 0) return untold(recording, "removeSourceBuffer of what is no buffer of this source", run);
-  return recorded(recording, ["removebuffer", number], run);
-});
-
-wrapSetter(MediaSource, "duration", (source, value, run) => {
-  const recording = recordingOf(source);
-  recording.seeksByItself = true;
-  recorded(recording, ["duration", asTime(Number(value))], run);
-});
-
-wrapFunction(MediaSource, "endOfStream", (source, values, run) => {
-  const recording = recordingOf(source);
-  if (values[0] === undefined) {
-    recording.seeksByItself = true;
-    return recorded(recording, ["endofstream"], run);
-  }
-  const error = String(values[0]);
-  if (!["network", "decode"].includes(error)) return untold(recording, `endOfStream of ${error}`, run);
-  return recorded(recording, ["endofstream", error], run);
-});
-
-wrapFunction(MediaSource, "setLiveSeekableRange", (source, values, run) =>
-  recorded(recordingOf(source), ["live", ...times(values, 2)], run));
-
-wrapFunction(MediaSource, "clearLiveSeekableRange", (source, values, run) =>
-  recorded(recordingOf(source), ["clearlive"], run));
+  type.prototype.constructor = realm.MediaSource;
+  const wrap = (name, facts) => wrapFunction(type.prototype, name, recordedBy({find: recordingOf, ...facts}));
+  wrap("addSourceBuffer", {
+    kinds: [asText],
+    words: (recording, source, text) => typeWords("add", String(text)),
+    after: (recording, buffer) => {
+      ofBuffer.set(buffer, recording);
+      watch(buffer, () => recording, {[`buffer ${recording.buffers.push(buffer) - 1}`]: EVENTS.buffer});
+      return buffer;
+    },
+  });
+  wrap("removeSourceBuffer", {
+    least: 1,
+    words: (recording, source, buffer) => {
+      const number = recording.numberOf(buffer);
+      return number < 0 ? null : ["removebuffer", number];
+    },
+  });
+  wrap("endOfStream", {
+    kinds: [asText], least: 0,
+    words: (recording, source, error) => {
+      if (error === undefined) return ["endofstream"];
+      return ["network", "decode"].includes(error) ? ["endofstream", error] : null;
+    },
+    before: (recording, source, error) => { if (error === undefined) recording.seeksByItself = true; },
+  });
+  wrap("setLiveSeekableRange", {
+    kinds: [asNumber, asNumber], words: (recording, source, ...values) => ["live", ...times(values, 2)],
+  });
+  wrap("clearLiveSeekableRange", {words: () => ["clearlive"]});
+  wrapSetter(type, "duration", recordedBy({
+    find: recordingOf, kinds: [asNumber],
+    words: (recording, source, value) => ["duration", asTime(Number(value))],
+    before: (recording) => { recording.seeksByItself = true; },
+  }));
+}
 
 // Source buffers. One whose source the recorder did not see is left alone.
 
-function wrapBufferCall(name, wordsOf) {
-  wrapFunction(SourceBuffer, name, (buffer, values, run) => {
-    const recording = ofBuffer.get(buffer);
-    if (!recording) return run();
-    const words = wordsOf(recording, recording.numberOf(buffer), values);
-    if (!words) return untold(recording, `${name} of arguments that it does not take`, run);
-    return recorded(recording, words, run);
-  });
-}
-
-function wrapBufferSetter(name, wordsOf) {
-  wrapSetter(SourceBuffer, name, (buffer, value, run) => {
-    const recording = ofBuffer.get(buffer);
-    if (!recording) return run();
-    const words = wordsOf(recording.numberOf(buffer), value);
-    return words ? recorded(recording, words, run) : untold(recording, `${name} set to ${value}`, run);
-  });
-}
-
+// the bytes of an append; of memory that the page gave away there are none
 function bytesOf(value) {
-  if (ArrayBuffer.isView(value)) return new Uint8Array(value.buffer, value.byteOffset, value.byteLength).slice();
-  const isBuffer = /^\[object (Shared)?ArrayBuffer\]$/.test(Object.prototype.toString.call(value));
-  return isBuffer ? new Uint8Array(value).slice() : null;
+  try {
+    if (ArrayBuffer.isView(value)) return new Uint8Array(value.buffer, value.byteOffset, value.byteLength).slice();
+    return Object.prototype.toString.call(value) === "[object ArrayBuffer]" ? new Uint8Array(value).slice() : null;
+  } catch {
+    return new Uint8Array(0);
+  }
 }
 
-wrapBufferCall("appendBuffer", (recording, number, values) => {
-  const bytes = bytesOf(values[0]);
+function appendWords(recording, buffer, value) {
+  const bytes = bytesOf(value);
   if (!bytes) return null;
+  const number = recording.numberOf(buffer);
   const piece = recording.keep(number, bytes);
   return ["append", number, piece.blob, piece.first, bytes.length];
-});
-wrapBufferCall("abort", (recording, number) => ["abort", number]);
-wrapBufferCall("remove", (recording, number, values) => values.length < 2 ? null
-  : ["remove", number, ...times(values, 2)]);
-wrapBufferCall("changeType", (recording, number, values) => values.length < 1 ? null
-  : typeWords("changetype", number, String(values[0])));
+}
 
-wrapBufferSetter("mode", (number, value) =>
-  ["segments", "sequence"].includes(String(value)) ? ["mode", number, String(value)] : null);
-wrapBufferSetter("timestampOffset", (number, value) => ["offset", number, asTime(Number(value))]);
-wrapBufferSetter("appendWindowStart", (number, value) => ["windowstart", number, asTime(Number(value))]);
-wrapBufferSetter("appendWindowEnd", (number, value) => ["windowend", number, asTime(Number(value))]);
-
-wrapGetter(SourceBuffer, "buffered", (buffer, run) => {
-  const recording = ofBuffer.get(buffer);
-  if (!recording) return run();
-  return recorded(recording, ["buffered", recording.numberOf(buffer)], run, (ranges) => `ranges${rangesText(ranges)}`);
-});
+function wrapBuffers(realm) {
+  const type = realm.SourceBuffer;
+  const find = (buffer) => ofBuffer.get(buffer);
+  const told = (facts) => recordedBy({find, ...facts});
+  const call = (name, facts) => wrapFunction(type.prototype, name, told(facts));
+  const numbered = (name, ...words) => (recording, buffer) => [name, recording.numberOf(buffer), ...words];
+  call("appendBuffer", {least: 1, words: appendWords});
+  call("abort", {words: numbered("abort")});
+  call("remove", {
+    kinds: [asNumber, asNumber],
+    words: (recording, buffer, ...values) => numbered("remove", ...times(values, 2))(recording, buffer),
+  });
+  call("changeType", {
+    kinds: [asText],
+    words: (recording, buffer, text) => typeWords(...numbered("changetype", String(text))(recording, buffer)),
+  });
+  wrapSetter(type, "mode", told({
+    kinds: [asText],
+    words: (recording, buffer, mode) => ["segments", "sequence"].includes(mode)
+      ? numbered("mode", mode)(recording, buffer) : null,
+  }));
+  for (const [name, word] of [["timestampOffset", "offset"], ["appendWindowStart", "windowstart"],
+    ["appendWindowEnd", "windowend"]]) {
+    wrapSetter(type, name, told({
+      kinds: [asNumber],
+      words: (recording, buffer, value) => numbered(word, asTime(Number(value)))(recording, buffer),
+    }));
+  }
+  wrapRead(type, "buffered", ofBuffer, "buffered", (ranges) => `ranges${rangesText(ranges)}`);
+}
 
 // The element.
 
-function wrapElementCall(name, wordsOf, before, answerOf) {
-  wrapFunction(HTMLMediaElement, name, (element, values, run) => {
-    const recording = ofElement.get(element);
-    if (!recording) return run();
-    before(recording, element);
-    return recorded(recording, wordsOf(values), run, answerOf && (() => answerOf(element)));
-  });
+const isMedia = (element) => typeof element?.canPlayType === "function";
+
+// the recording of an element, also where nobody saw how it came to its source
+function recordingOfElement(element) {
+  if (!ofElement.has(element)) attachUrl(element, element.currentSrc);
+  return ofElement.get(element);
 }
 
 // Of seeks before there is metadata only the last one is made, when they come.
-function expectSeek(recording, element) {
+function expectSeek(recording, element, value) {
+  if (!Number.isFinite(Number(value))) return;
   recording.expected.seeking = element.readyState === 0 ? 1 : recording.expected.seeking + 1;
 }
 
 // What a promise comes to is no answer, but for an element whose source cannot be played: there it is refused at once.
-function playAnswer(element) {
-  return element.error && element.error.code === 4 ? "refused NotSupportedError" : "done";
+const playAnswer = (element) => element.error?.code === 4 ? "refused NotSupportedError" : "done";
+
+function wrapElements(realm) {
+  const type = realm.HTMLMediaElement;
+  const told = (facts) => recordedBy({find: recordingOfElement, ...facts});
+  const call = (name, facts) => wrapFunction(type.prototype, name, told(facts));
+  // an event is looked for behind the call only where the call brings it
+  call("play", {
+    words: () => ["play"], answer: playAnswer,
+    before: (recording, element) => {
+      if (element.paused) recording.expected.play += 1;
+      if (element.ended) recording.seeksByItself = true;
+    },
+  });
+  call("pause", {
+    words: () => ["pause"],
+    before: (recording, element) => { if (!element.paused) recording.expected.pause += 1; },
+  });
+  const seekWords = (recording, element, value) => ["seek", asTime(Number(value))];
+  const seek = {kinds: [asNumber], words: seekWords, before: expectSeek};
+  call("fastSeek", seek);
+  wrapSetter(type, "currentTime", told(seek));
+  wrapRead(type, "buffered", ofElement, "elementbuffered", (ranges) => `ranges${rangesText(ranges)}`);
+  wrapRead(type, "seekable", ofElement, "seekable", (ranges) => `range ${rangeText(ranges)}`);
 }
 
-// an event is looked for behind the call only where the call brings it
-wrapElementCall("play", () => ["play"], (recording, element) => {
-  if (element.paused) recording.expected.play += 1;
-  if (element.ended) recording.seeksByItself = true;
-}, playAnswer);
-wrapElementCall("pause", () => ["pause"], (recording, element) => {
-  if (!element.paused) recording.expected.pause += 1;
-});
-wrapElementCall("fastSeek", (values) => ["seek", asTime(Number(values[0]))], expectSeek);
+// How a source comes to an element, and goes.
 
-wrapSetter(HTMLMediaElement, "currentTime", (element, value, run) => {
+// A page that gives an element another source, or loads it anew, leaves the one that is open.
+function leave(element, text) {
   const recording = ofElement.get(element);
-  if (!recording) return run();
-  if (Number.isFinite(Number(value))) expectSeek(recording, element);
-  return recorded(recording, ["seek", asTime(Number(value))], run);
-});
+  if (recording && recording.source.readyState !== "closed") recording.leave(text);
+}
 
-wrapGetter(HTMLMediaElement, "buffered", (element, run) =>
-  recorded(ofElement.get(element), ["elementbuffered"], run, (ranges) => `ranges${rangesText(ranges)}`));
-wrapGetter(HTMLMediaElement, "seekable", (element, run) =>
-  recorded(ofElement.get(element), ["seekable"], run, (ranges) => `range ${rangeText(ranges)}`));
+function attachUrl(element, url) {
+  if (sourceOfUrl.has(url)) attach(element, sourceOfUrl.get(url));
+}
 
-// How a source comes to an element.
-
-const createObjectURL = URL.createObjectURL;
-URL.createObjectURL = function (object) {
-  const url = createObjectURL.call(URL, object);
-  if (object instanceof MediaSource) sourceOfUrl.set(url, object);
-  return url;
-};
-
-wrapSetter(HTMLMediaElement, "src", (element, value, run) => {
+function setUrl(element, values, run) {
+  convert(values, [asText]);
+  leave(element, "src");
   run();
-  const source = sourceOfUrl.get(String(value));
-  if (source) attach(element, source);
-});
+  attachUrl(element, String(values[0]));
+}
 
-wrapSetter(HTMLMediaElement, "srcObject", (element, value, run) => {
+function setObject(element, value, run) {
+  leave(element, "srcObject");
   run();
-  if (value instanceof MediaSource) attach(element, value);
-});
+  if (isSource(value)) attach(element, value);
+  else if (/MediaSourceHandle/.test(Object.prototype.toString.call(value))) {
+    warnOnce("a media source of a worker is not recorded");
+  }
+}
 
-const setAttribute = Element.prototype.setAttribute;
-Element.prototype.setAttribute = function (name, value) {
-  setAttribute.call(this, name, value);
-  const source = String(name).toLowerCase() === "src" && sourceOfUrl.get(String(value));
-  const element = this instanceof HTMLSourceElement ? this.parentElement : this;
-  if (source && element instanceof HTMLMediaElement) attach(element, source);
-};
+function setAttribute(element, values, run) {
+  const media = isMedia(element) ? element : isMedia(element?.parentElement) ? element.parentElement : null;
+  if (!media || values.length < 2) return run();
+  convert(values, [asText, asText]);
+  if (String(values[0]).toLowerCase() !== "src") return run();
+  if (media === element) leave(element, "setAttribute");
+  const answer = run();
+  attachUrl(media, String(values[1]));
+  return answer;
+}
+
+function wrapAttaching(realm) {
+  wrapFunction(realm.URL, "createObjectURL", (target, values, run) => {
+    const url = run();
+    if (isSource(values[0])) sourceOfUrl.set(url, values[0]);
+    return url;
+  });
+  const {prototype} = realm.HTMLMediaElement;
+  wrapSetter(realm.HTMLMediaElement, "src", setUrl);
+  wrapSetter(realm.HTMLMediaElement, "srcObject", (element, [value], run) => setObject(element, value, run));
+  wrapFunction(prototype, "load", (element, values, run) => {
+    leave(element, "load()");
+    return run();
+  });
+  wrapFunction(realm.Element.prototype, "setAttribute", setAttribute);
+  wrapFunction(realm.Element.prototype, "attachShadow", (element, values, run) => {
+    const root = run();
+    roots.push(new WeakRef(root));
+    return root;
+  });
+}
+
+// Frames. Those of the same origin are recorded too: their windows are wrapped when they come into the page, before
+// their scripts run, and when they have loaded another page.
+
+function install(realm) {
+  try {
+    if (realm.record?.archive || !realm.MediaSource) return;
+    realm.record = api;
+  } catch {
+    warnOnce("a frame of another origin is not recorded");
+    return;
+  }
+  roots.push(new WeakRef(realm.document));
+  wrapSources(realm);
+  wrapBuffers(realm);
+  wrapElements(realm);
+  wrapAttaching(realm);
+  watchFrames(realm);
+}
+
+function watchFrames(realm) {
+  const {document} = realm;
+  const windowOf = descriptor(realm.HTMLIFrameElement, "contentWindow").get;
+  const look = (frame) => { if (windowOf.call(frame)) install(windowOf.call(frame)); };
+  const lookAtAll = () => document.querySelectorAll("iframe").forEach(look);
+  lookAtAll();
+  new realm.MutationObserver(lookAtAll).observe(document, {childList: true, subtree: true});
+  document.addEventListener("load", lookAtAll, {capture: true});
+  for (const name of ["contentWindow", "contentDocument"]) {
+    const own = descriptor(realm.HTMLIFrameElement, name);
+    const get = inPlaceOf(own.get, (frame, values, run) => {
+      look(frame);
+      return run();
+    });
+    Object.defineProperty(realm.HTMLIFrameElement.prototype, name, {...own, get});
+  }
+}
 
 // The script. It is written when it is asked for, from all entries.
 
-const RULE_LIMIT = 1000;
 const STEP_LIMIT = 100000;
-// Events that come as often, and where, in a browser as in the program. Calls within all others are
-// lines at their place: docs/BROWSERS.md tells why these come otherwise, or the program has none.
-const RULE_EVENTS = new Set([
-  ...EVENTS.source.slice(0, 2), ...EVENTS.list, ...EVENTS.buffer,
-  "loadedmetadata", "loadeddata", "canplay", "seeking", "seeked", "play", "pause", "ended",
-]);
-
-// Calls within an event are a rule where they are the same each time, up to the last time that there
-// are some. Answers the rules, and marks their calls.
-function rulesOf(entries) {
-  const told = new Map();
-  for (const entry of entries) {
-    if (entry.kind !== "event" || entry.target === "other") continue;
-    const name = `${entry.target} ${entry.type}`;
-    told.set(name, [...told.get(name) || [], entry]);
-  }
-  const rules = [];
-  for (const [name, events] of told) {
-    const calls = events.map((event) => event.calls.map((call) => lineOf(call.words, scriptTime)));
-    const times = calls.findLastIndex((lines) => lines.length) + 1;
-    const isSame = calls.slice(0, times).every((lines) => lines.join("\n") === calls[0].join("\n"));
-    const fits = times > 0 && calls[0].length <= 1000 && rules.length < RULE_LIMIT;
-    if (!isSame || !fits || !RULE_EVENTS.has(events[0].type)) continue;
-    rules.push({on: name, times, calls: calls[0]});
-    for (const event of events) event.calls.forEach((call) => { call.isByRule = true; });
-  }
-  return rules;
-}
 
 // Writes the steps of the script and the browser's lines, entry by entry.
 class Writer {
@@ -624,27 +789,18 @@ class Writer {
     this.steps = [];
     this.lines = [];
     // events since the script last fired some, and how far the clock went since
-    this.owed = [];
+    this.owed = 0;
     this.passed = 0;
     this.isAtEnd = false;
     this.task = 0;
     this.last = null;
   }
 
-  comment(text) {
-    this.steps.push({comment: text});
-  }
-
-  step(line) {
-    this.steps.push({line});
-  }
-
   write(entries) {
     for (const entry of entries) {
       this.follow(entry);
-      if (entry.kind === "note") this.comment(entry.text);
+      if (entry.kind === "note") this.steps.push(tomlComment(entry.text));
       else if (entry.kind === "event") this.event(entry);
-      else if (entry.isByRule) this.lines.push(`listener 0 ${lineOf(entry.words)}: ${entry.answer}`);
       else this.call(entry);
       this.last = entry;
     }
@@ -662,70 +818,51 @@ class Writer {
   event(entry) {
     if (entry.target === "other") return;
     this.lines.push(`event ${entry.target} ${entry.type}`);
-    if (entry.type !== "sourceclose") this.owed.push(entry);
+    if (entry.type !== "sourceclose") this.owed += 1;
   }
 
   call(entry) {
     this.comeTo(entry);
     const second = (entry.at / 1000).toFixed(3);
-    if (entry.task !== this.task) this.comment(`task ${entry.task}, ${second} s${withinText(entry)}`);
+    if (entry.task !== this.task) this.steps.push(tomlComment(`task ${entry.task}, ${second} s${withinText(entry)}`));
     this.task = entry.task;
-    this.step(lineOf(entry.words, scriptTime));
+    this.steps.push(lineOf(entry.words, scriptTime));
     this.lines.push(`call ${lineOf(entry.words)}: ${entry.answer}`);
   }
 
   // takes the program to where the browser was before this entry
   comeTo(entry) {
-    if (!this.owed.length && !this.passed) return;
-    if (entry.busy.length || entry.isSeekDue) this.fireOwed();
-    else this.step("drain");
+    if (!this.owed && !this.passed) return;
+    if (!entry.busy.length && !entry.isSeekDue) this.steps.push("drain");
+    else for (let i = 0; i < this.owed; i += 1) this.steps.push("fire");
     if (this.passed > 0) this.advance(entry);
-    this.owed = [];
-  }
-
-  // While work runs, only so many events are fired as the browser fired. Of the work one item is done where
-  // they tell that an initialization segment was received: how many frames had come by then, nobody knows.
-  fireOwed() {
-    let hasWorked = false;
-    for (const event of this.owed) {
-      const isOfInit = event.type === "loadedmetadata"
-        || (event.target === "activesourcebuffers" && event.type === "addsourcebuffer");
-      if (isOfInit && !hasWorked) {
-        for (const number of event.busy) this.step(`work ${number}`);
-        hasWorked = true;
-      }
-      this.step("fire");
-    }
+    this.owed = 0;
   }
 
   // At the end of a range the program stops by itself, so a second more takes it there for sure: a browser tells
   // the end of a range only to the microsecond.
   advance(entry) {
     const words = ["advance", asTime(this.passed + (this.isAtEnd ? 1 : 0))];
-    this.step(lineOf(words, scriptTime));
+    this.steps.push(lineOf(words, scriptTime));
     this.lines.push(`call ${lineOf(words)}: done`);
-    if (!entry.busy.length && !entry.isSeekDue) this.step("drain");
+    if (!entry.busy.length && !entry.isSeekDue) this.steps.push("drain");
     this.passed = 0;
     this.isAtEnd = false;
   }
 }
 
-function withinText(entry) {
-  if (!entry.within) return "";
-  const {target, type} = entry.within;
-  return target === "other" ? `, within ${type} of the element` : `, within ${target} ${type}`;
+function withinText({within}) {
+  return within ? `, within ${within.target === "other" ? "element" : within.target} ${within.type}` : "";
 }
 
 function tomlText(text) {
   return text.includes("'") ? `"${text.replace(/["\\]/g, "\\$&")}"` : text.includes('"') ? `'${text}'` : `"${text}"`;
 }
 
-function tomlComment(text) {
-  return `# ${text.replace(/[\u0000-\u001f\u007f]/g, " ")}`;
-}
+const tomlComment = (text) => `# ${text.replace(/[\u0000-\u001f\u007f]/g, " ")}`;
 
-function tomlScript(recording, steps, rules) {
-  const count = steps.filter((step) => step.line).length;
+function tomlScript(recording, steps) {
+  const count = steps.filter((step) => !step.startsWith("#")).length;
   const lines = [
     tomlComment("A page's calls, recorded by clients/record.js."),
     tomlComment(`Page: ${location.href}`),
@@ -734,13 +871,8 @@ function tomlScript(recording, steps, rules) {
   if (count > STEP_LIMIT) lines.push(tomlComment(`There are ${count} steps; the program takes ${STEP_LIMIT}.`));
   const blobs = recording.blobs.map((blob) => tomlText(`file ${blob.name}`));
   lines.push(`blobs = [${blobs.join(", ")}]`, "steps = [");
-  for (const step of steps) lines.push(`  ${step.line ? `${tomlText(step.line)},` : tomlComment(step.comment)}`);
-  lines.push("]");
-  for (const rule of rules) {
-    lines.push("", "[[rules]]", "listener = 0", `on = ${tomlText(rule.on)}`, `times = ${rule.times}`,
-      `calls = [${rule.calls.map(tomlText).join(", ")}]`);
-  }
-  return `${lines.join("\n")}\n`;
+  for (const step of steps) lines.push(`  ${step.startsWith("#") ? step : `${tomlText(step)},`}`);
+  return `${[...lines, "]"].join("\n")}\n`;
 }
 
 // what is there in the end: the last lines of the program, as far as a page sees them
@@ -753,30 +885,27 @@ function closingLines({source, element, buffers}) {
   return lines;
 }
 
+// what came when the page had left the source: the program never leaves one
+function behindLines({behind}) {
+  return behind.length ? [`# behind the end, when the page had left the source: ${behind.join(", ")}`] : [];
+}
+
 function filesOf(recording) {
-  const entries = recording.entries;
-  for (const entry of entries) entry.isByRule = false;
-  const rules = rulesOf(entries);
+  recording.finishRead();
   const writer = new Writer();
-  writer.write(entries);
-  if (recording.isOver) {
-    writer.comeTo({busy: [], isSeekDue: false});
-  } else {
-    const end = recording.moment();
-    writer.follow(end);
-    writer.comeTo(end);
-  }
-  const closing = recording.isOver ? [] : closingLines(recording);
+  writer.write(recording.entries);
+  const end = recording.isOver ? recording.endMoment : recording.moment();
+  if (end) writer.follow(end);
+  writer.comeTo(end ?? {busy: [], isSeekDue: false});
+  const closing = recording.isOver ? [...recording.closing ?? [], ...behindLines(recording)] : closingLines(recording);
   return [
-    {name: "recording.toml", parts: [encode(tomlScript(recording, writer.steps, rules))]},
+    {name: "recording.toml", parts: [encode(tomlScript(recording, writer.steps))]},
     {name: "browser.txt", parts: [encode(`${[...writer.lines, ...closing].join("\n")}\n`)]},
     ...recording.blobs.map(({name, parts}) => ({name, parts})),
   ];
 }
 
-function encode(text) {
-  return new TextEncoder().encode(text);
-}
+const encode = (text) => new TextEncoder().encode(text);
 
 // The archive: a ZIP file whose entries are stored as they are. Each entry has a local header and its bytes;
 // behind them all stands the directory, which tells where each entry begins, and the end.
@@ -837,7 +966,7 @@ function chosen(number) {
   return recordings[number ?? recordings.length - 1];
 }
 
-window.record = {
+const api = {
   // the archive of a recording, as a Blob; there is one for each MediaSource, counted from 0, and the last is taken
   archive(number) {
     return zip(filesOf(chosen(number)));
@@ -845,9 +974,9 @@ window.record = {
 
   // the archive as a download
   save(number) {
-    const blob = record.archive(number);
+    const blob = api.archive(number);
     const link = document.createElement("a");
-    link.href = createObjectURL.call(URL, blob);
+    link.href = URL.createObjectURL(blob);
     link.download = "recording.zip";
     link.click();
     setTimeout(() => URL.revokeObjectURL(link.href), 60000);
@@ -864,5 +993,6 @@ window.record = {
   },
 };
 
+install(window);
 console.log("record.js is there: record.save() downloads what the page did, record.list() tells what there is");
 })();

@@ -1,4 +1,5 @@
-"""mseplay in Python: a run of the program in one call, and sessions, whose steps are done one at a time.
+"""mseplay in Python: a run of the program in one call, sessions, whose steps are done one at a time, and what a file
+comes to.
 
     import mseplay
 
@@ -11,9 +12,11 @@
             lines, refused = session.step(line)
         print(session.buffer(0).buffered)
 
-The files are bytes by name. Both link libmseplay_c.a, which `rt lib` makes in crates/mseplay_c, with the system's C
-compiler. Where it is not there they take that of bench/unproved.py, libmseplay_c-unproved.a at the top; another archive
-is named by the environment variable MSEPLAY_C.
+    found = mseplay.inspect("plain.mp4")     # a dictionary; js/CATALOGUE.md has its keys
+
+The files of a run are bytes by name. All of them link libmseplay_c.a, which `rt lib` makes in crates/mseplay_c, with
+the system's C compiler. Where it is not there they take that of bench/unproved.py, libmseplay_c-unproved.a at the top;
+another archive is named by the environment variable MSEPLAY_C.
 """
 
 import contextlib
@@ -107,6 +110,20 @@ class Library:
         if written > FIRST_ROOM:
             status, written, room = self.call(words, files or {}, written)
         return status, room[:written]
+
+
+@functools.cache
+def run_library():
+    """The library of `inspect` for whole runs, linked and loaded once."""
+    return Library()
+
+
+def inspect(path, remux=False, library=None):
+    """What a file comes to in a source buffer, as a dictionary: js/CATALOGUE.md has its keys. A classic file is made
+    into fragments before it where `remux`. All memory is given back; a file that cannot be read is an OSError."""
+    import mseplay_inspect
+
+    return mseplay_inspect.inspect(path, remux, library)
 
 
 # Sessions. Each structure is that of the same name in mseplay.h.

@@ -91,6 +91,19 @@ def cut(content):
                       "frag_keyframe+delay_moov+default_base_moof+skip_trailer")
 
 
+def broken_inside(content):
+    """The file with a `traf` in its second `moof` whose size leads beyond its end."""
+    moof = [first for kind, first, _ in boxes(content) if kind == b"moof"][1]
+    traf = find(content, b"traf", start=moof + 8)[0]
+    return content[:traf] + b"\xff" * 4 + content[traf + 4:]
+
+
+def large():
+    """Small pictures with filler: about 200,000 bytes a second."""
+    return pictures(3, "-b:v", "1600k", "-x264-params",
+                    "nal-hrd=cbr:filler=1:vbv-maxrate=1600:vbv-bufsize=1600:bitrate=1600")
+
+
 def adts():
     return ffmpeg(*SOUND, "-t", "0.2", "-ac", "1", "-c:a", "aac", "-b:a", "32k", suffix=".aac")
 
@@ -101,6 +114,8 @@ APE = b"APETAGEX" + struct.pack("<IIII", 2000, 32, 0, 0xA0000000) + bytes(8)
 def files():
     plain = pictures(3)
     yield "plain.mp4", plain
+    yield "broken-moof.mp4", broken_inside(plain)
+    yield "large.mp4", large()
     yield "late.mp4", pictures(3, order=H264)
     yield "late-sound.mp4", both(1, FRAGMENTS)
     yield "samples-in-moov.mp4", pictures(3, movflags="frag_keyframe+default_base_moof+skip_trailer")

@@ -137,8 +137,9 @@ def pipe_above(lowest):
 class Browser:
     """One headless Chromium with a profile of its own."""
 
-    def __init__(self):
+    def __init__(self, flags=()):
         path = tool("chromium", "chromium-browser", "google-chrome", package="chromium")
+        self.flags = flags
         self.profile = tempfile.mkdtemp(prefix="clients-chromium-")
         self.last_id = 0
         self.unread = b""
@@ -155,7 +156,7 @@ class Browser:
             "--disable-renderer-backgrounding", "--disable-backgrounding-occluded-windows",
             "--disable-background-timer-throttling",
             "--force-device-scale-factor=1", "--autoplay-policy=no-user-gesture-required",
-            f"--user-data-dir={self.profile}",
+            f"--user-data-dir={self.profile}", *self.flags,
         ]
         if os.geteuid() == 0:
             words.append("--no-sandbox")

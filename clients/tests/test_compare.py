@@ -2,7 +2,9 @@
 
 import contextlib
 import io
+import os
 import re
+import subprocess
 import sys
 import tempfile
 import tomllib
@@ -14,6 +16,7 @@ sys.path.insert(0, str(kit.CLIENTS))
 
 import compare  # noqa: E402
 import known  # noqa: E402
+import scripts  # noqa: E402
 
 ROWS = kit.CLIENTS / "rows"
 PAGE = (kit.REPOSITORY / "docs" / "BROWSERS.md").read_text(encoding="utf-8")
@@ -173,3 +176,67 @@ def test_status_and_sentences():
         bad.write_text('steps = ["atach"]')
         status, text = told([bad, browser])
         assert status == 2 and "error: script step 0" in text, text
+
+
+@contextlib.contextmanager
+def called_in(folder):
+    before = os.getcwd()
+    os.chdir(folder)
+    try:
+        yield
+    finally:
+        os.chdir(before)
+
+
+def test_where_the_files_of_a_script_are_found():
+    """In the folder of the call, as the program does; else beside the script, which is said; else it is a sentence."""
+    kit.program()
+    plain, late = ((ROWS / name).read_bytes() for name in ("plain.mp4", "late.mp4"))
+    script_text = 'blobs = ["file media/one.mp4", "file ../two.mp4"]\nsteps = ["attach", "add video/mp4", "append 0 0"]\n'
+    with tempfile.TemporaryDirectory() as top:
+        call, beside = Path(top, "here", "call"), Path(top, "there", "beside")
+        for folder in (call, beside):
+            (folder / "media").mkdir(parents=True)
+        (call / "media/one.mp4").write_bytes(plain)
+        (beside / "media/one.mp4").write_bytes(late)
+        (beside.parent / "two.mp4").write_bytes(late)
+        script, browser = beside / "script.toml", beside / "browser.txt"
+        script.write_text(script_text)
+        with called_in(call):
+            read = scripts.read(script)
+            assert read.blobs() == [plain, late]
+            assert [sentence.partition(":")[0] for sentence in read.took] == [
+                "media/one.mp4 is that of this folder", "../two.mp4 is that beside the script"], read.took
+            browser.write_text("\n".join(as_browser(scripts.printed(read))))
+            status, text = told([script, browser])
+            assert status == 0 and "# ../two.mp4 is that beside the script: " in text, text
+        with called_in(beside):
+            assert scripts.read(script).blobs() == [late, late] and scripts.read(script).took == []
+        (beside.parent / "two.mp4").unlink()
+        with called_in(call):
+            status, text = told([script, browser])
+        assert status == 2 and text.startswith("no file ../two.mp4, neither in ") and "\n" not in text.strip(), text
+
+
+def test_a_missing_file_of_a_script_that_is_played():
+    with tempfile.TemporaryDirectory() as folder:
+        script = Path(folder, "script.toml")
+        script.write_text('blobs = ["file nothing.mp4"]\nsteps = ["attach"]\n')
+        done = subprocess.run([sys.executable, kit.CLIENTS / "browsers.py", "--play", script], capture_output=True, text=True,
+                              cwd=folder, timeout=300)
+    assert done.returncode == 2 and done.stderr.startswith("no file nothing.mp4, neither in "), done.stderr
+    assert "Traceback" not in done.stderr
+
+
+def test_loose_events_anchor_nothing():
+    """`timeupdate` that comes otherwise changes nothing of how the other events are laid side by side."""
+    lines = as_browser(printed("stall.toml"))
+    place = lines.index("event element canplay")
+    other = [*lines[:place], "event element timeupdate", "event element waiting", "event element timeupdate", *lines[place:]]
+    _, pairs, _ = compare.compared(kit.EXAMPLES / "stall.toml", printed("stall.toml"), "\n".join(other) + "\n")
+    kept = compare.read_lines(printed("stall.toml"))
+    theirs = compare.read_lines("\n".join(other) + "\n")
+    for line in kept:
+        if line.kind == "event" and line.type not in compare.LOOSE:
+            assert theirs[pairs[line.index].index].text == line.text, line
+    return f"{len(pairs)} pairs"

@@ -41,14 +41,14 @@ def test_program_in_c():
 
 
 def lines_of_guide(language):
-    """The lines that docs/GUIDE.md shows in this language, on calls from a program of one's own."""
-    guide = (kit.REPOSITORY / "docs" / "GUIDE.md").read_text()
+    """The lines that clients/README.md shows in this language, on calls from a program of one's own."""
+    guide = (kit.REPOSITORY / "clients" / "README.md").read_text()
     section = guide.split("## How do I call it from my own program?")[1].split("\n## ")[0]
     return re.search(rf"```{language}\n(.*?)```", section, re.S).group(1)
 
 
 def test_guide_in_c():
-    """The lines in C that docs/GUIDE.md shows print the file of one segment."""
+    """The lines in C that clients/README.md shows print the file of one segment."""
     archive, compiler = archive_and_compiler()
     include, _, call = lines_of_guide("c").partition("\n")
     text = (f"#include <stdio.h>\n{include}\nint main(void) {{\n{call}"

@@ -8,7 +8,7 @@ from test_page_media import engine
 from test_page_text import VIEW
 
 sys.path.insert(0, str(kit.CLIENTS))
-import browsers  # noqa: E402
+import drivers  # noqa: E402
 
 
 def value(firefox, expression):
@@ -20,8 +20,8 @@ def value(firefox, expression):
 def test_firefox_shows_a_file():
     engine()
     try:
-        firefox = browsers.Firefox()
-    except browsers.NotDriven as missing:
+        firefox = drivers.Firefox()
+    except drivers.NotDriven as missing:
         raise kit.Skip(str(missing)) from missing
     try:
         firefox.ask("WebDriver:Navigate", {"url": VIEW.as_uri()})

@@ -18,20 +18,22 @@ import kit
 sys.path.insert(0, str(kit.CLIENTS))
 
 import compare  # noqa: E402
+import live  # noqa: E402
+import scripts  # noqa: E402
 
 SECOND = 141_120_000_000
-ARCHIVE = """(async () => {
-  const bytes = new Uint8Array(await record.archive().arrayBuffer());
+ARCHIVE = """async (number) => {
+  const bytes = new Uint8Array(await record.archive(number ?? undefined).arrayBuffer());
   return btoa(Array.from(bytes, (byte) => String.fromCharCode(byte)).join(""));
-})()"""
+}"""
 
 
 def opened(front, name):
     return kit.open_page(f"{front}/clients/tests/pages/{name}.html")
 
 
-def archive_of(page):
-    return zipfile.ZipFile(io.BytesIO(base64.b64decode(page.evaluate(ARCHIVE))))
+def archive_of(page, number=None):
+    return zipfile.ZipFile(io.BytesIO(base64.b64decode(page.call(ARCHIVE, number))))
 
 
 def recorded(name):
@@ -46,14 +48,18 @@ def recorded(name):
     return archive
 
 
-def unexplained(archive):
+def unexplained(archive, name="Chromium"):
     """The differences between the program and the browser that no row of docs/BROWSERS.md tells of."""
+    kit.program()
+    try:
+        live.engine()
+    except live.NoEngine as missing:
+        raise kit.Skip(str(missing)) from missing
     with tempfile.TemporaryDirectory() as folder:
         archive.extractall(folder)
-        script = Path(folder, "recording.toml")
         told = Path(folder, "browser.txt").read_text()
-        run, _, found = compare.compared(script, kit.run("play", script.name, folder=folder).stdout, told)
-    assert run.name == "Chromium", run.name
+        run, _, found = compare.compared_recording(scripts.read(Path(folder, "recording.toml"), folder), told)
+    assert run.name == name, run.name
     return [compare.told(one) for one in found if not one.row]
 
 
@@ -79,14 +85,13 @@ def test_page_that_waits():
 def test_page_whose_listeners_append():
     kit.program()
     archive = recorded("listeners")
-    script = script_of(archive)
-    rules = {rule["on"]: rule for rule in script["rules"]}
-    assert rules["source sourceopen"]["calls"][-1] == "append 0 0 0 734"
-    assert rules["element loadedmetadata"]["calls"] == ["seek 70560000000"]
-    assert "buffer 0 updateend" not in rules, "the calls are others each time, so they are lines"
-    assert [step for step in script["steps"] if step.startswith("append")] == [
-        "append 0 0 734 893", "append 0 0 1627 887", "append 0 0 2514 816"]
-    assert "within buffer 0 updateend" in archive.read("recording.toml").decode()
+    steps = script_of(archive)["steps"]
+    assert [step for step in steps if step.startswith("append")] == [
+        "append 0 0 0 734", "append 0 0 734 893", "append 0 0 1627 887", "append 0 0 2514 816"]
+    assert "seek 70560000000" in steps
+    text = archive.read("recording.toml").decode()
+    for words in ("within buffer 0 updateend", "within element loadedmetadata"):
+        assert words in text, text
     assert unexplained(archive) == []
 
 
@@ -144,20 +149,17 @@ OPENED = """const video = document.createElement("video");
 """
 
 
-def test_the_same_calls_each_time_are_a_rule():
+def test_calls_of_listeners_are_lines_at_their_place():
     archive = recorder(OPENED + """
         buffer.addEventListener("updatestart", () => { try { buffer.remove(0, 1); } catch (error) {} });
         for (let i = 0; i < 3; i += 1) {
           buffer.appendBuffer(new Uint8Array([0, 0, 0, 8, 102, 114, 101, 101]));
           await heard("updateend");
         }""")
-    rules = {rule["on"]: rule for rule in script_of(archive)["rules"]}
-    rule = rules["buffer 0 updatestart"]
-    assert (rule["times"], rule["calls"]) == (3, [f"remove 0 0 {SECOND}"]), rule
     assert archive.read("buffer-0.bin") == b"\0\0\0\x08free", "the same bytes are kept once"
-    told = archive.read("browser.txt").decode()
-    assert told.count(f"listener 0 remove 0 0 {SECOND}: refused InvalidStateError") == 3
-    kit.program()
+    told = archive.read("browser.txt").decode().splitlines()
+    places = [i for i, line in enumerate(told) if line == f"call remove 0 0 {SECOND}: refused InvalidStateError"]
+    assert len(places) == 3 and all(told[i - 1] == "event buffer 0 updatestart" for i in places), told
     assert unexplained(archive) == []
 
 
@@ -223,13 +225,51 @@ def test_what_was_there_stays_as_it_was():
     page.close()
 
 
-def test_a_page_that_takes_the_source_away():
-    archive = recorder(OPENED + """
+LEFT = OPENED + """
+    buffer.appendBuffer(new Uint8Array([0, 0, 0, 8, 102, 114, 101, 101]));
+    await heard("updateend");
+    LEAVE;
+    await new Promise((done) => setTimeout(done, 100));
+    try { buffer.abort(); } catch (error) {}"""
+
+
+def test_a_page_that_leaves_its_source():
+    """However it does so, the recording closes with what was there, and what comes behind is told."""
+    for leave, name in [("video.src = ''", "src"), ("video.removeAttribute('src'); video.load()", "load()"),
+                        ("video.srcObject = null", "srcObject"), ("video.setAttribute('src', '')", "setAttribute")]:
+        archive = recorder(LEFT.replace("LEAVE", leave))
+        text, told = (archive.read(each).decode() for each in ("recording.toml", "browser.txt"))
+        assert f"# left by {name}" in text and "abort" not in text, text
+        lines = told.splitlines()
+        assert lines[-4:-1] == ["state source open duration nan level 0 position 0 paused true seeking false error 0",
+                                "duration nan", "buffer 0 buffered none"], lines
+        assert lines[-1].startswith("# behind the end, when the page had left the source: ") and "sourceclose" in lines[-1]
+        assert "removesourcebuffer" not in "\n".join(lines[:-1])
+        assert unexplained(archive) == []
+
+
+def test_a_source_that_is_opened_again():
+    """Each life of a source has a recording of its own."""
+    page = kit.open_page("about:blank")
+    page.evaluate((kit.CLIENTS / "record.js").read_text())
+    page.evaluate(f"""(async () => {{ {OPENED}
+        video.src = URL.createObjectURL(source);
+        await new Promise((done) => {{ source.onsourceopen = done; }});
+        source.addSourceBuffer('video/mp4; codecs="avc1.42C00A"');
         video.src = "";
+        await new Promise((done) => {{ video.onerror = done; }});
+        video.src = URL.createObjectURL(source);
+        await new Promise((done) => {{ source.onsourceopen = done; }});
+        source.addSourceBuffer('audio/mp4; codecs="mp4a.40.2"');
         await new Promise((done) => setTimeout(done, 100));
-        try { buffer.abort(); } catch (error) {}""")
-    text = archive.read("recording.toml").decode()
-    assert "# the source was closed" in text and "abort" not in text, text
+    }})()""")
+    added = []
+    for number in range(page.evaluate("record.list().length")):
+        archive = archive_of(page, number)
+        added.append([step for step in script_of(archive)["steps"] if step.startswith("add")])
+        assert unexplained(archive) == []
+    assert added == [['add video/mp4; codecs="avc1.42C00A"']] * 2 + [['add audio/mp4; codecs="mp4a.40.2"']], added
+    page.close()
 
 
 def test_a_source_element():

@@ -603,14 +603,14 @@ def check_ended(session):
 
 
 def lines_of_guide(language):
-    """The lines that docs/GUIDE.md shows in this language, on sessions."""
-    guide = (kit.REPOSITORY / "docs" / "GUIDE.md").read_text()
+    """The lines that clients/README.md shows in this language, on sessions."""
+    guide = (kit.REPOSITORY / "clients" / "README.md").read_text()
     section = guide.split("## How do I drive the engine a step at a time?")[1].split("\n## ")[0]
     return re.search(rf"```{language}\n(.*?)```", section, re.S).group(1)
 
 
 def test_guide_in_c():
-    """The lines in C that docs/GUIDE.md shows look at the ranges of plain.mp4."""
+    """The lines in C that clients/README.md shows look at the ranges of plain.mp4."""
     archive_and_compiler()
     include, _, calls = lines_of_guide("c").partition("\n")
     data = ", ".join(map(str, read(PLAIN)))

@@ -1,11 +1,11 @@
 // The same bytes on this browser's own MediaSource, and the ranges of both over one axis.
 
 import { busyWith } from "./busy.mjs";
-import { codecOf } from "./codecs.mjs";
 import { $, make, page } from "./dom.mjs";
 import { ask } from "./engine_worker.mjs";
 import { onLeave, shown } from "./screens.mjs";
 import { readMovie } from "../../../js/src/inspect/boxes.mjs";
+import { codecOf } from "../../../js/src/inspect/codecs.mjs";
 import { difference } from "../../../js/src/inspect/ranges.mjs";
 import { length, seconds, TICKS } from "../../../js/src/inspect/times.mjs";
 
