@@ -3,11 +3,11 @@
 
     names_in_docs.py [FOLDER]
 
-FOLDER is the top of the repository (default: the one that this script stands in). Read are README.md, docs/PROVED.md,
-docs/ARCHITECTURE.md, docs/READING.md, docs/NOTES.md and docs/LIBRARY.md. It prints a line for each name that it
+FOLDER is the top of the repository (default: the one that this script stands in). Read are README.md, docs/proof/PROVED.md,
+docs/proof/ARCHITECTURE.md, docs/proof/READING.md, docs/proof/NOTES.md and docs/LIBRARY.md. It prints a line for each name that it
 does not find, and ends with 1 if there is one.
 
-- Tables of calls (README.md: the third cell of a row that begins with a crate; docs/PROVED.md: the first two cells below
+- Tables of calls (README.md: the third cell of a row that begins with a crate; docs/proof/PROVED.md: the first two cells below
   a heading `## CRATE: ..`): each call is a function, a type, a trait or a constant of that crate, `Owner::call` one of
   an impl or a trait of that type, `module::call` one of that file. Each clause is a label of an `ensures` of a call of
   its row, or a definition of the crate's specs/; the name in "those of `name`" is no clause. A row without a call speaks
@@ -25,7 +25,7 @@ import sys
 
 DEFAULT = os.path.join(os.path.dirname(os.path.abspath(__file__)), "..")
 # documents that have no table of calls with their clauses
-PROSE = ["docs/ARCHITECTURE.md", "docs/READING.md", "docs/NOTES.md", "docs/LIBRARY.md"]
+PROSE = ["docs/proof/ARCHITECTURE.md", "docs/proof/READING.md", "docs/proof/NOTES.md", "docs/LIBRARY.md"]
 # boxes of ISO/IEC 14496-12 of which only documents speak
 BOXES = {"enca"}
 WORD = re.compile(r"`([A-Za-z_]\w*(?:::\w+)*)`")
@@ -145,7 +145,7 @@ class Checker:
     def proved(self, text):
         crate, above = None, []
         for number, line in enumerate(text.split("\n"), 1):
-            place = f"docs/PROVED.md:{number}"
+            place = f"docs/proof/PROVED.md:{number}"
             heading = re.match(r"## (\w+):", line)
             if heading:
                 crate, above = heading.group(1), []
@@ -209,7 +209,7 @@ class Checker:
         self.words = set().union(*(crate.words for crate in self.crates.values()))
         self.paths = list(paths_of(self.top))
         self.stems = {os.path.basename(path).split(".")[0] for path in self.paths}
-        self.proved(read(f"{self.top}/docs/PROVED.md"))
+        self.proved(read(f"{self.top}/docs/proof/PROVED.md"))
         self.readme(read(f"{self.top}/README.md"))
         for name in PROSE:
             self.lines(name)

@@ -1,15 +1,19 @@
 #!/usr/bin/env python3
 """Lists the definitions that the contract of a function rests on, each behind those that it cites.
 
-    reading.py [--names | --text] [FUNCTION] [--clause LABEL..] [--below CRATE..]
+    reading.py [--names | --text] [FUNCTION] [--command WORD] [--clause LABEL..] [--below CRATE..]
+    reading.py --commands
 
-FUNCTION is a public function's name (default: run, which is the program). Printed is a table by crates, with the
+FUNCTION is a public function's name (default: run, which is the program), or a crate's name, which means all its public
+functions: `live_session` is a session with its laws. Printed is a table by crates, with the
 definitions of each, their files and lines, then the sums, once more without what nobody need believe
 (BETWEEN_CONTRACTS), and apart from them the types and traits of the code. With
 --names all of these come first, a line each, in an order in which each stands behind what it cites (but where some cite
 each other); with --text they come with their lines. With --below the definitions of these crates are left out, and what
 only they cite: `--below mse_engine` shows what a reader meets before the machine. With --clause only the clauses of these
-labels are read: `--clause program` shows what the program as a function rests on.
+labels are read: `--clause program` shows what the program as a function rests on. With --command the cases of
+definitions that match another command, or its task, are left out: `--command play` shows what an author of scripts has
+to believe. --commands prints the sums for each command and for a session.
 
 Read are the names in `requires` and `ensures` of the function, and from there on each name that a definition uses: of
 its own file, or brought in by `use` (in code `ghost use`). Definitions stand in crates/*/specs. Of the code count the
@@ -28,6 +32,16 @@ USE = re.compile(r"^(?:ghost )?(?:pub )?use Rattle\.([\w.]+?)(?:\.\{(.*?)\})?(?:
 # same whatever the relation is, so nobody need believe its definition: how what a parser keeps stands for its string.
 BETWEEN_CONTRACTS = {("byte_stream", "Stands")}
 DECLARED = re.compile(r"^pub (enum|struct|trait) (\w+)")
+# Each command of the program, with the patterns of its own in the definitions of mse_commands: the command and its task.
+COMMANDS = {
+    "ranges": {"Ranges", "ByFile"},
+    "pieces": {"Pieces", "ByFile"},
+    "make": {"Make", "ByFile"},
+    "feed": {"Feed", "ByFile"},
+    "remux": {"Remux", "ByRemux"},
+    "play": {"Play", "ByScript"},
+}
+SESSION = "live_session"
 
 
 def lines_of(path):
@@ -101,6 +115,18 @@ def with_labels(lines, labels):
     return found
 
 
+def without_cases(numbered, foreign):
+    """The lines of a file of definitions but for the cases that match one of these patterns."""
+    found, left_out = [], False
+    for number, line in numbered:
+        if line and not line[0].isspace():
+            head = line.split(" = ")[0].split(" =")[0]
+            left_out = not HEAD.match(line) and bool(set(NAME.findall(head)) & foreign)
+        if not left_out:
+            found.append((number, line))
+    return found
+
+
 class Scope:
     """What a file calls by which name: words to the definitions that they mean, and short names of other files."""
 
@@ -109,7 +135,11 @@ class Scope:
 
 
 class Reader:
-    def __init__(self):
+    """All definitions of the repository; of one command alone, where it is named."""
+
+    def __init__(self, command=None):
+        own = COMMANDS.get(command, set())
+        self.foreign = set().union(*COMMANDS.values()) - own if command else set()
         self.specs, self.scopes, self.code, self.models = {}, {}, {}, set()
         crates = os.path.join(TOP, "crates")
         for crate in sorted(os.listdir(crates)):
@@ -142,6 +172,8 @@ class Reader:
         if path in self.specs:
             return self.specs[path]
         _, others = uses(lines_of(path), False)
+        if self.foreign and os.sep + "mse_commands" + os.sep in path:
+            others = without_cases(others, self.foreign)
         blocks = []
         for number, line in others:
             if not line.strip() or line.startswith("--"):
@@ -248,17 +280,22 @@ class Reader:
         return [one for one in found if one is not definition]
 
     def contract(self, function, labels):
-        """The clauses of a function (those of some labels, if any), as a definition, and what they name."""
-        for (crate, name), folder in self.folders():
-            for file in folder:
+        """How many lines the clauses of a function have (those of some labels, if any), or those of all public functions
+        of a crate, and the definitions that they name."""
+        count, roots = 0, []
+        for crate, files in self.folders():
+            for file in files:
                 lines = lines_of(file)
                 for number, line in enumerate(lines):
-                    if re.match(rf"pub fn {function}\b", line):
-                        end = number
-                        while lines[end].rstrip() not in ("{", "{}"):
-                            end += 1
-                        return self.clauses(crate, file, number, function, with_labels(lines[number:end], labels))
-        raise SystemExit(f"no public function {function}")
+                    head = re.match(r"(\s*)pub fn (\w+)", line)
+                    if head and (crate == function or not head.group(1) and head.group(2) == function):
+                        ends = (head.group(1) + "{", head.group(1) + "{}")
+                        end = next(at for at in range(number, len(lines)) if lines[at].rstrip() in ends)
+                        definition, named = self.clauses(crate, file, number, function, with_labels(lines[number:end], labels))
+                        count, roots = count + len(definition.lines), roots + named
+        if not count:
+            raise SystemExit(f"no public function or crate {function}")
+        return count, roots
 
     def folders(self):
         crates = os.path.join(TOP, "crates")
@@ -266,7 +303,7 @@ class Reader:
             files = []
             for folder, _, names in os.walk(os.path.join(crates, crate, "src")):
                 files += [os.path.join(folder, name) for name in sorted(names) if name.endswith(".rt")]
-            yield (crate, None), files
+            yield crate, files
 
     def clauses(self, crate, file, number, function, lines):
         definition = Definition(file, number + 1, function, lines)
@@ -322,8 +359,13 @@ def main():
     parser.add_argument("--text", action="store_true")
     parser.add_argument("--clause", nargs="*", default=[])
     parser.add_argument("--below", nargs="*", default=[])
+    parser.add_argument("--command", choices=list(COMMANDS))
+    parser.add_argument("--commands", action="store_true")
     options = parser.parse_args()
-    reader = Reader()
+    if options.commands:
+        print_commands()
+        return
+    reader = Reader(options.command)
     contract, roots = reader.contract(options.function, options.clause)
     order = in_order(reader, roots, set(options.below))
     if options.names or options.text:
@@ -341,7 +383,22 @@ def main():
     needed = in_order(reader, roots, set(options.below), BETWEEN_CONTRACTS)
     print_row("to be believed", [one for one in needed if one not in types], "definitions")
     print_row("of code", types, "types, traits")
-    print(f"The contract of {options.function} has {len(contract.lines)} lines.")
+    print(f"The contract of {options.function} has {contract} lines.")
+
+
+def print_commands():
+    """What has to be believed of the program, of each command of it, and of a session."""
+    wanted = [("run", "run", None)]
+    wanted += [(command, "run", command) for command in COMMANDS]
+    wanted += [("a session", SESSION, None)]
+    print("                 definitions   lines  types and traits")
+    for title, function, command in wanted:
+        reader = Reader(command)
+        _, roots = reader.contract(function, [])
+        order = in_order(reader, roots, set(), BETWEEN_CONTRACTS)
+        types = [one for one in order if one.file.endswith(".rt")]
+        lines = sum(len(one.lines) for one in order if one not in types)
+        print(f"{title:16} {len(order) - len(types):11} {lines:7} {len(types):17}")
 
 
 def print_row(name, ones, kind):
