@@ -2,6 +2,7 @@
 """Tries the cases of crates/case_runs/data, and what the documents say that the program prints.
 
     check.py PROGRAM [--store]
+    check.py PROGRAM --only WORD ..
 
 PROGRAM is crates/mseplay/out/mseplay, as `rt run` leaves it. README.md says what a line of cases.txt is. Puts and loads
 that fail are tried by crates/case_runs alone, which has a sink and a library for it. A block of a document whose first
@@ -9,7 +10,7 @@ line begins with `$ mseplay` has what these words print in that folder; a line `
 `> NAME` behind the words makes a file for the blocks below. Each file of that folder has a row in README.md, or a line
 of cases.txt.
 
---store writes the texts anew.
+--store writes the texts anew. --only tries the cases alone whose line, or whose heading, has one of these words.
 """
 import glob
 import os
@@ -27,11 +28,14 @@ DATA = os.path.join(TOP, "crates", "case_runs", "data")
 MEDIA = 9
 
 
-def cases():
-    """The status, the way, the text's name and the words of each line."""
+def cases(only=("",)):
+    """The status, the way, the text's name and the words of each line that, or whose heading, has one of some words."""
+    heading = ""
     with open(os.path.join(DATA, "cases.txt"), encoding="utf-8") as lines:
         for line in lines:
-            if line.strip() and not line.startswith("#"):
+            if line.startswith("#"):
+                heading = line
+            elif line.strip() and any(word in heading or word in line for word in only):
                 status, way, text, *words = line.split()
                 yield int(status), way, text, [word.replace("␣", " ") for word in words]
 
@@ -141,9 +145,9 @@ def try_case(program, status, way, text, words, stores):
     return [f"{way} {' '.join(words)} {fault}" for fault in found]
 
 
-def try_cases(program, stores):
+def try_cases(program, stores, tried):
     with ThreadPoolExecutor(os.cpu_count()) as pool:
-        for faults in pool.map(lambda case: try_case(program, *case, stores), cases()):
+        for faults in pool.map(lambda case: try_case(program, *case, stores), tried):
             yield from faults
 
 
@@ -179,7 +183,7 @@ def told_text(program, words, made):
 
 def try_documents(program, made):
     readme = os.path.join(HERE, "README.md")
-    for document in [*glob.glob(f"{TOP}/*.md"), *glob.glob(f"{TOP}/docs/*.md"), readme]:
+    for document in [*glob.glob(f"{TOP}/*.md"), *glob.glob(f"{TOP}/docs/**/*.md", recursive=True), readme]:
         for words, told in told_runs(document):
             if not is_told(told_text(program, words, made), told):
                 yield f"{os.path.relpath(document, TOP)}: {' '.join(words)} prints something else"
@@ -205,10 +209,14 @@ def main():
     if len(sys.argv) < 2:
         sys.exit(__doc__)
     program, stores = os.path.realpath(sys.argv[1]), "--store" in sys.argv
-    with tempfile.TemporaryDirectory() as made:
-        faults = [*try_cases(program, stores), *try_documents(program, made), *try_names()]
-    print("\n".join([*faults, f"{len(list(cases()))} cases, {len(faults)} faults"]))
-    sys.exit(1 if faults else 0)
+    only = sys.argv[sys.argv.index("--only") + 1:] if "--only" in sys.argv else None
+    tried = list(cases(only) if only else cases())
+    faults = list(try_cases(program, stores, tried))
+    if not only:
+        with tempfile.TemporaryDirectory() as made:
+            faults += [*try_documents(program, made), *try_names()]
+    print("\n".join([*faults, f"{len(tried)} cases, {len(faults)} faults"]))
+    sys.exit(1 if faults or not tried else 0)
 
 
 main()
